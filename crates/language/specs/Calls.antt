@@ -1,0 +1,43 @@
+-- What the calls on a rule reply, and what they leave in the lent output: document 01, "Checks in order".
+use Prim.Native.Nat.{ℕ}
+use mathlib.Core.Bool.{cond}
+use mathlib.Core.List.{List, _++_}
+use lib.Dec.{ltb}
+use lib.ListN.{length, drop}
+use Rattle.language.specs.Term.{images}
+use Rattle.language.specs.Words.{words}
+use Rattle.language.specs.Image.{image}
+use Rattle.language.specs.Read.{Reading, accepted, refused, read}
+
+-- "A refusal gives its number alone"
+pub data Reply (A : Type 0) : Type 0 where
+  success : A → Reply A
+  refusal : ℕ → Reply A
+
+-- a call's reply, and the final contents of the output lent to it
+pub record Outcome (A : Type 0) : Type 0 where
+  pub reply : Reply A
+  pub output : List ℕ
+
+-- "The checking call gives only success or the refusal"
+unfoldable pub checked : Reading → Reply (Unit {0})
+checked (accepted t) = success tt
+checked (refused e p) = refusal e
+
+-- "the measuring call gives the count"
+unfoldable pub measured : Reading → Reply ℕ
+measured (accepted t) = success (length (words images (image t)))
+measured (refused e p) = refusal e
+
+-- 9: "the lent output is shorter than what is to be written". "Success gives the image's word count; the image fills the front of the output
+-- and every later word is unchanged."
+unfoldable pub filled : List ℕ → List ℕ → Outcome ℕ
+filled ws out =
+    cond (ltb (length out) (length ws))
+    (record { reply = refusal 9; output = out })
+    (record { reply = success (length ws); output = ws ++ drop (length ws) out })
+
+-- "A refusal .. leaves all that was lent unchanged."
+unfoldable pub written : Reading → List ℕ → Outcome ℕ
+written (accepted t) out = filled (words images (image t)) out
+written (refused e p) out = record { reply = refusal e; output = out }

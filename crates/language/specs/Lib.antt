@@ -1,0 +1,10 @@
+pub mod Term
+pub mod Kinds
+pub mod Words
+pub mod Scope
+pub mod Limits
+pub mod Sub
+pub mod Run
+pub mod Image
+pub mod Read
+pub mod Calls

@@ -1,0 +1,87 @@
+-- Reading a rule: document 01, "Checks in order". "The words are read from first to last, and the first fault met is the reply."
+-- A place is the index of a word.
+use Prim.Native.Nat.{ℕ, zero, suc, _+_, _%_}
+use mathlib.Core.Bool.{cond}
+use mathlib.Core.List.{List}
+use lib.Dec.{ltb, leb, eqb}
+use lib.ListN.{length, getD}
+use Rattle.language.specs.declared.Parts.{Parts}
+use Rattle.language.specs.declared.Parts.the-variants.{Nothing, Body, FunctionAndArguments, BoundAndBody, CountAndArguments, SubjectAndArms, ArityAndBody}
+use Rattle.language.specs.declared.Row.{Row}
+use Rattle.language.specs.declared.Head.{Head}
+use Rattle.language.specs.declared.Head.the-variants.{Refused, Opens}
+use Rattle.language.specs.Term.{Term, Terms, Arms, var, fun, call, bind, con, cases, nil, cons, none, arm}
+use Rattle.language.specs.Kinds.{mostArguments, atTerm, atArm, headOf}
+use Rattle.language.specs.Limits.{deepest, mostWords}
+
+-- what reading gives: a thing and the place after it, or a fault: its number, and the place of the word tested
+pub data Got (A : Type 0) : Type 0 where
+  found : A → ℕ → Got A
+  fault : ℕ → ℕ → Got A
+
+-- read on with the thing, from the place after it
+unfoldable pub then : {A B : Type 0} → Got A → (A → ℕ → Got B) → Got B
+then (found a to) f = f a to
+then (fault e p) f = fault e p
+
+-- a larger thing, made of what was read
+unfoldable pub made : {A B : Type 0} → (A → B) → Got A → Got B
+made g (found a to) = found (g a) to
+made g (fault e p) = fault e p
+
+-- the word at a place; 3: "a word is needed and none is left"
+abbrev pub word : {A : Type 0} → List ℕ → ℕ → (ℕ → Got A) → Got A
+word s at f = cond (ltb at (length s)) (f (getD s at 0)) (fault 3 at)
+
+-- read on with what the head at a place opens
+abbrev pub headed : {A : Type 0} → Head → ℕ → (Row → Got A) → Got A
+headed (Refused e) at g = fault e at
+headed (Opens r) at g = g r
+
+-- "At a second word: 3, 5."
+unfoldable pub second : List ℕ → ℕ → Got ℕ
+second s at = word s at (λ w. cond (leb w mostArguments) (found w (at + 1)) (fault 5 at))
+
+-- k terms one after the other; p reads one
+unfoldable pub many : (ℕ → Got Term) → ℕ → ℕ → Got Terms
+many p zero at = found nil at
+many p (suc k) at = then (p at) (λ t to. made (cons t) (many p k to))
+
+-- k arms one after the other, under n source variables; p reads a body under so many. "At an arm's head: 3, 4, 5."
+unfoldable pub armsOf : List ℕ → (ℕ → ℕ → Got Term) → ℕ → ℕ → ℕ → Got Arms
+armsOf s p n zero at = found none at
+armsOf s p n (suc k) at =
+    word s at (λ w. headed (headOf atArm w) at (λ r. then (second s (at + 1)) (λ m to. then (p (n + m) to) (λ b past. made
+    (arm (w % 256) m b) (armsOf s p n k past)))))
+
+-- the term whose head, at a place, has the low byte a and these parts, and whose body has o source variables besides its arguments; it
+-- stands under n source variables, and p reads a part under so many. 7: "variable index not below the number of source variables bound there"
+unfoldable pub opened : List ℕ → (ℕ → ℕ → Got Term) → ℕ → ℕ → ℕ → ℕ → Parts → Got Term
+opened s p n at a o Nothing = cond (ltb a n) (found (var a) (at + 1)) (fault 7 at)
+opened s p n at a o Body = made (fun o a) (p (n + a + o) (at + 1))
+opened s p n at a o FunctionAndArguments = then (p n (at + 1)) (λ f to. made (call f) (many (p n) a to))
+opened s p n at a o BoundAndBody = then (p n (at + 1)) (λ m to. made (bind m) (p (n + o) to))
+opened s p n at a o CountAndArguments = then (second s (at + 1)) (λ m to. made (con a) (many (p n) m to))
+opened s p n at a o SubjectAndArms = then (p n (at + 1)) (λ m to. made (cases m) (armsOf s p n a to))
+opened s p n at a o ArityAndBody = fault 4 at
+
+-- a term at a place, with d levels of depth left, under n source variables. "At a term's head the tests are 3, 6, 4, 5, 7."
+unfoldable pub term : List ℕ → ℕ → ℕ → ℕ → Got Term
+term s zero n at = word s at (λ w. fault 6 at)
+term s (suc d) n at = word s at (λ w. headed (headOf atTerm w) at (λ r. opened s (term s d) n at (w % 256) (r .binds) (r .parts)))
+
+-- what reading a sequence of words as a rule comes to: its term, or the refusal's number and the place of the word tested
+pub data Reading : Type 0 where
+  accepted : Term → Reading
+  refused : ℕ → ℕ → Reading
+
+abbrev pub reading : Got Term → Reading
+reading (found t to) = accepted t
+reading (fault e p) = refused e p
+
+-- "Lengths first: 1, then 2." "After the rule's last word: 8."; "words left over; the first of them is the word tested"
+unfoldable pub read : List ℕ → Reading
+read s = reading
+    (cond (eqb (length s) 0) (fault 1 0)
+    (cond (ltb mostWords (length s)) (fault 2 0)
+    (then (term s deepest 0 0) (λ t to. cond (ltb to (length s)) (fault 8 to) (found t to)))))
