@@ -1,1 +1,3 @@
 pub mod Heads
+pub mod Forms
+pub mod Places

@@ -8,3 +8,4 @@ pub mod Run
 pub mod Image
 pub mod Read
 pub mod Calls
+pub mod Places

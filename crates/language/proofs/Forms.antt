@@ -1,0 +1,24 @@
+-- The passing form of an atom, and of a constructor that is none: document 01's two cases for a constructor, each as an equation.
+-- Assumes nothing.
+use Prim.Native.Nat.{ℕ}
+use mathlib.Core.Path.{_≡_, refl, sym}
+use mathlib.Core.Bool.{true, false, false≢true}
+use Rattle.language.specs.Term.{Term, Terms, var, kvar, fun, call, bind, con, cases, size}
+use Rattle.language.specs.Run.{atom, atoms}
+use Rattle.language.specs.Image.{lam, to, making, passing, carried, chain}
+
+-- "Atom: 0201 0401 0900, then its carried form."
+pub passing-atom : (t : Term) → atom t ≡ true → passing t ≡ lam (to (kvar 0) (carried t))
+unfolding atom passing
+passing-atom (var i) e = refl
+passing-atom (kvar i) e = refl
+passing-atom (fun o a b) e = refl
+passing-atom (call f ps) e = absurd (false≢true e)
+passing-atom (bind m b) e = absurd (false≢true e)
+passing-atom (con t ps) e = rw e
+passing-atom (cases m ps) e = absurd (false≢true e)
+
+-- "Constructor with n arguments, not an atom: the chain over the arguments"
+pub passing-build : (t : ℕ) (ps : Terms) → atoms ps ≡ false → passing (con t ps) ≡ lam (chain ps (making t (size ps)))
+unfolding passing
+passing-build t ps e = rw e
