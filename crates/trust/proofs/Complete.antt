@@ -1,0 +1,171 @@
+-- The words of every rule are accepted, with that term. By induction on the term: where its words stand, under at least its variables' number
+-- and with at least its depth left, the readers find it and the place after it.
+-- Assumes nothing.
+use Prim.Native.Nat.{ℕ, zero, suc, _+_, _-_, _*_, _/_, _%_, _<_, _≤_}
+use mathlib.Core.Path.{_≡_, refl, sym, ap, _∙_}
+use mathlib.Core.Bool.{Bool, true, false, cond}
+use mathlib.Core.List.{List, [], _∷_, _++_}
+use native.Mathlib.Omega.{arith}
+use native.Mathlib.Numerals.{add-one, sub-one}
+use lib.Dec.{ltb, leb, eqb}
+use lib.ListN.{length, getD}
+use borrow.Author.Tests.{lt-ltb, le-ltb, le-leb, ne-eqb}
+use Rattle.language.specs.Term.{rules, Term, Terms, Arms, var, kvar, fun, call, bind, con, cases, nil, cons, none, arm, size, sizeᵃ}
+use Rattle.language.specs.Kinds.{mostArguments, mostArms, mostByte, atTerm, atArm, row, noRow, kinds, rowOf, headOf}
+use Rattle.language.specs.Words.{head, words, wordsᵗ, wordsᵃ}
+use Rattle.language.specs.Scope.{Scoped, Scopedᵗ, Scopedᵃ, s-var, s-fun, s-call, s-bind, s-con, s-cases, s-nil, s-cons, s-none, s-arm}
+use Rattle.language.specs.Limits.{deepest, mostWords, Ranged, Rangedᵗ, Rangedᵃ, r-var, r-kvar, r-fun, r-call, r-bind, r-con, r-cases, r-nil, r-cons, r-none, r-arm, depth, depthᵗ, depthᵃ, Rule}
+use Rattle.language.specs.Places.{Held}
+use Rattle.language.specs.Read.{Got, found, fault, then, made, headed, second, many, armsOf, opened, term, accepted, read}
+use Rattle.language.specs.declared.Parts.the-variants.{Nothing, Body, FunctionAndArguments, BoundAndBody, CountAndArguments, SubjectAndArms, ArityAndBody}
+use Rattle.language.specs.declared.Row.{Row}
+use Rattle.language.specs.declared.Head.the-variants.{Opens}
+use Rattle.language.proofs.Heads.{opens}
+use Rattle.language.proofs.Places.{whole, first-run, second-run, there, first-word, next-words}
+use Rattle.trust.specs.Promises.{RulesAreAccepted}
+
+-- reading on, where the first part was found
+then-is : {A B : Type 0} {g : Got A} {a : A} {i : ℕ} (f : A → ℕ → Got B) {h : Got B} → g ≡ found a i → f a i ≡ h → then g f ≡ h
+unfolding then
+then-is f e k = ap (λ x. then x f) e ∙ k
+
+made-is : {A B : Type 0} {g : Got A} {a : A} {i : ℕ} (f : A → B) → g ≡ found a i → made f g ≡ found (f a) i
+unfolding made
+made-is f e = ap (made f) e
+
+-- what the parts make, where they were found
+module _ (s : List ℕ) (p : ℕ → ℕ → Got Term) (n at : ℕ) where
+  var-is : {to : ℕ} (a : ℕ) → a < n → to ≡ at + 1 → opened s p n at a 0 Nothing ≡ found (var a) to
+  unfolding opened
+  var-is a l e = rw (lt-ltb a n l, e)
+
+  call-is : {f : Term} {ps : Terms} {i to : ℕ} (a : ℕ) → p n (at + 1) ≡ found f i → many (p n) a i ≡ found ps to
+      → opened s p n at a 0 FunctionAndArguments ≡ found (call f ps) to
+  unfolding opened
+  call-is a e k = then-is _ e (made-is _ k)
+
+  let-is : {m b : Term} {i to : ℕ} → p n (at + 1) ≡ found m i → p (suc n) i ≡ found b to → opened s p n at 0 1 BoundAndBody ≡ found (bind m b) to
+  unfolding opened
+  let-is e k = then-is _ e (made-is _ (rw add-one k))
+
+  con-is : {ps : Terms} {i to : ℕ} (t m : ℕ) → second s (at + 1) ≡ found m i → many (p n) m i ≡ found ps to
+      → opened s p n at t 0 CountAndArguments ≡ found (con t ps) to
+  unfolding opened
+  con-is t m e k = then-is _ e (made-is _ k)
+
+  match-is : {m : Term} {ps : Arms} {i to : ℕ} (a : ℕ) → p n (at + 1) ≡ found m i → armsOf s p n a i ≡ found ps to
+      → opened s p n at a 0 SubjectAndArms ≡ found (cases m ps) to
+  unfolding opened
+  match-is a e k = then-is _ e (made-is _ k)
+
+-- the row of the kind k, where a head of that kind stands
+of-kind : (w k a : ℕ) {r : Row} → w ≡ head k a → a ≤ mostByte → getD kinds k noRow ≡ r → r ≡ rowOf w
+unfolding rowOf
+of-kind w k a e l q = let d : w / 256 ≡ k = omega arith in rw (d, q)
+
+-- a head of the kind k whose low byte is in its range opens its row
+head-opens : (q w k a : ℕ) {r : Row} → w ≡ head k a → a ≤ mostByte → getD kinds k noRow ≡ r → r .stands ≡ q → r .low ≤ a → a ≤ r .high
+    → headOf q w ≡ Opens r
+head-opens q w k a {r} e l i s lo hi =
+    let m : w % 256 ≡ a = omega arith in
+    sym (opens q w (of-kind w k a e l i) s (rw m lo) (rw m hi))
+
+module _ (s : List ℕ) (n at : ℕ) where
+  -- such a head at a place, with a level of depth left: the term is what its parts make
+  term-opens : (d k a : ℕ) {r : Row} → 1 ≤ d → at < length s → getD s at 0 ≡ head k a → a ≤ mostByte → getD kinds k noRow ≡ r → r .stands ≡ atTerm
+      → r .low ≤ a → a ≤ r .high → term s d n at ≡ opened s (term s (d - 1)) n at a (r .binds) (r .parts)
+  unfolding term
+  term-opens zero k a h t e l i st lo hi = absurd (omega arith)
+  term-opens (suc d) k a h t e l i st lo hi =
+      let m : getD s at 0 % 256 ≡ a = omega arith in
+      simp (lt-ltb at (length s) t, head-opens atTerm (getD s at 0) k a e l i st lo hi, m, sub-one)
+
+  second-is : (m : ℕ) → at < length s → getD s at 0 ≡ m → m ≤ mostArguments → second s at ≡ found m (at + 1)
+  unfolding second
+  second-is m t e l = simp (lt-ltb at (length s) t, e, le-leb m mostArguments l)
+
+  arm-is : (p : ℕ → ℕ → Got Term) (t m k : ℕ) {b : Term} {ps : Arms} {j to : ℕ} → at < length s → getD s at 0 ≡ head 8 t → t ≤ mostByte
+      → second s (at + 1) ≡ found m (at + 1 + 1) → p (n + m) (at + 1 + 1) ≡ found b j → armsOf s p n k j ≡ found ps to
+      → armsOf s p n (suc k) at ≡ found (arm t m b ps) to
+  unfolding armsOf
+  arm-is p t m k h e l c x y =
+      let r : getD s at 0 % 256 ≡ t = omega arith in
+      simp (lt-ltb at (length s) h, head-opens atArm (getD s at 0) 8 t e l refl refl (omega arith) l, r)
+      (then-is _ c (then-is _ x (made-is _ y)))
+
+fun-row : (o : ℕ) → o ≤ 1 → getD kinds (2 + o) noRow ≡ row atTerm 1 mostArguments o Body
+fun-row zero l = refl
+fun-row (suc zero) l = refl
+fun-row (suc (suc o)) l = absurd (omega arith)
+
+module _ (s : List ℕ) where
+  mutual
+    unfolding words size sizeᵃ depth opened many armsOf
+
+    pub term-is : {t : Term} → Ranged rules t → {c n : ℕ} → Scoped rules c n t → (d at to : ℕ) → Held s (words rules t) at to → depth t ≤ d
+        → term s d n at ≡ found t to
+    term-is (r-var {i} l) {n = n} (s-var b) d at to h e =
+        term-opens s n at d 1 i (omega arith) (there h) (first-word h) l refl refl (omega arith) l
+        ∙ var-is s (term s (d - 1)) n at i b (h .past)
+    term-is (r-kvar k l) x d at to h e = absurd k
+    term-is (r-fun {o} {a} p l u y) {n = n} (s-fun x) d at to h e =
+        term-opens s n at d (2 + o) a (omega arith) (there h) (omega (arith, first-word h)) (omega arith) (fun-row o p) refl (omega arith) u
+        ∙ made-is (fun o a) (term-is y x (d - 1) (at + 1) to (next-words h) (omega arith))
+    term-is (r-call {f} {ps} l u y z) {n = n} (s-call x w) d at to h e =
+        term-opens s n at d 4 (size ps) (omega arith) (there h) (first-word h) (omega arith) refl refl l (omega arith)
+        ∙ call-is s (term s (d - 1)) n at (size ps)
+        (term-is y x (d - 1) (at + 1) (at + 1 + length (words rules f)) (first-run (words rules f) (wordsᵗ rules ps) (next-words h)) (omega arith))
+        (terms-is z w (d - 1) (at + 1 + length (words rules f)) to (second-run (words rules f) (wordsᵗ rules ps) (next-words h)) (omega arith))
+    term-is (r-bind {m} {b} y z) {n = n} (s-bind x w) d at to h e =
+        term-opens s n at d 5 0 (omega arith) (there h) (first-word h) (omega arith) refl refl (omega arith) (omega arith)
+        ∙ let-is s (term s (d - 1)) n at
+        (term-is y x (d - 1) (at + 1) (at + 1 + length (words rules m)) (first-run (words rules m) (words rules b) (next-words h)) (omega arith))
+        (term-is z w (d - 1) (at + 1 + length (words rules m)) to (second-run (words rules m) (words rules b) (next-words h)) (omega arith))
+    term-is (r-con {t} {ps} l u z) {n = n} (s-con w) d at to h e =
+        term-opens s n at d 6 t (omega arith) (there h) (first-word h) l refl refl (omega arith) l
+        ∙ con-is s (term s (d - 1)) n at t (size ps)
+        (second-is s n (at + 1) (size ps) (there (next-words h)) (first-word (next-words h)) u)
+        (terms-is z w (d - 1) (at + 1 + 1) to (next-words (next-words h)) (omega arith))
+    term-is (r-cases {m} {ps} l u y z) {n = n} (s-cases x w) d at to h e =
+        term-opens s n at d 7 (sizeᵃ ps) (omega arith) (there h) (first-word h) (omega arith) refl refl l u
+        ∙ match-is s (term s (d - 1)) n at (sizeᵃ ps)
+        (term-is y x (d - 1) (at + 1) (at + 1 + length (words rules m)) (first-run (words rules m) (wordsᵃ rules ps) (next-words h)) (omega arith))
+        (arms-is z w (d - 1) (at + 1 + length (words rules m)) to (second-run (words rules m) (wordsᵃ rules ps) (next-words h)) (omega arith))
+
+    pub terms-is : {ts : Terms} → Rangedᵗ rules ts → {c n : ℕ} → Scopedᵗ rules c n ts → (d at to : ℕ) → Held s (wordsᵗ rules ts) at to → depthᵗ ts ≤ d
+        → many (term s d n) (size ts) at ≡ found ts to
+    terms-is r-nil s-nil d at to h e = ap (found nil) (omega (arith, h .past))
+    terms-is (r-cons {t} {ts} y z) (s-cons x w) d at to h e =
+        then-is _ (term-is y x d at (at + length (words rules t)) (first-run (words rules t) (wordsᵗ rules ts) h) (omega arith))
+        (made-is (cons t) (terms-is z w d (at + length (words rules t)) to (second-run (words rules t) (wordsᵗ rules ts) h) (omega arith)))
+
+    pub arms-is : {ps : Arms} → Rangedᵃ rules ps → {c n : ℕ} → Scopedᵃ rules c n ps → (d at to : ℕ) → Held s (wordsᵃ rules ps) at to → depthᵃ ps ≤ d
+        → armsOf s (term s d) n (sizeᵃ ps) at ≡ found ps to
+    arms-is r-none s-none d at to h e = ap (found none) (omega (arith, h .past))
+    arms-is (r-arm {t} {n = m} {b} {ps} l u y z) {n = n} (s-arm x w) d at to h e =
+        arm-is s n at (term s d) t m (sizeᵃ ps) (there h) (first-word h) l
+        (second-is s n (at + 1) m (there (next-words h)) (first-word (next-words h)) u)
+        (term-is y x d (at + 1 + 1) (at + 1 + 1 + length (words rules b)) (first-run (words rules b) (wordsᵃ rules ps) (next-words (next-words h))) (omega arith))
+        (arms-is z w d (at + 1 + 1 + length (words rules b)) to (second-run (words rules b) (wordsᵃ rules ps) (next-words (next-words h))) (omega arith))
+
+-- a term has a word at least
+some-words : (t : Term) → 0 < length (words rules t)
+unfolding words
+some-words (var i) = omega arith
+some-words (kvar i) = omega arith
+some-words (fun o a b) = omega arith
+some-words (call f ps) = omega arith
+some-words (bind m b) = omega arith
+some-words (con t ps) = omega arith
+some-words (cases m ps) = omega arith
+
+pub rules-are-accepted : RulesAreAccepted
+unfolding read then
+rules-are-accepted t r =
+    let s : List ℕ = words rules t in
+    simp (
+      ne-eqb (length s) 0 (λ e. omega (arith, some-words t)),
+      le-ltb mostWords (length s) (r .short),
+      term-is s (r .ranged) (r .closed) deepest 0 (length s) (whole s) (r .shallow),
+      le-ltb (length s) (length s) (omega arith),
+    )
