@@ -1,3 +1,5 @@
 pub mod Heads
 pub mod Forms
 pub mod Places
+pub mod Eval
+pub mod Cases

@@ -9,3 +9,4 @@ pub mod Image
 pub mod Read
 pub mod Calls
 pub mod Places
+pub mod Cases

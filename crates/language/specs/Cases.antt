@@ -1,0 +1,116 @@
+-- The worked rules A to N of document 01, "Worked rules", in one table, and what is claimed of each of them. (Case O and larger rules are run by a
+-- program.)
+use Prim.Native.Nat.{ℕ}
+use mathlib.Core.List.{List, [], _∷_}
+use mathlib.Core.Option.{Option, some, none}
+use mathlib.Core.Path.{_≡_}
+use lib.ListN.{replicate}
+use Rattle.language.specs.Term.{images, Term}
+use Rattle.language.specs.Words.{words}
+use Rattle.language.specs.Run.{Run, count}
+use Rattle.language.specs.Image.{image}
+use Rattle.language.specs.Read.{Reading, accepted, refused, read}
+use Rattle.language.specs.Calls.{Reply, success, refusal, written}
+
+-- the words of a value, and the applications of the image's run that comes to it
+pub record Result : Type 0 where
+  pub value : List ℕ
+  pub applications : ℕ
+
+-- a rule, the words of the output lent to the writing call, that call's reply, the image where it is printed whole, and what it comes to
+pub record Case : Type 0 where
+  pub rule : List ℕ
+  pub room : ℕ
+  pub reply : Reply ℕ
+  pub printed : Option (List ℕ)
+  pub result : Option Result
+
+-- where something is said, it holds
+abbrev pub Said : {A : Type 0} → Option A → (A → Type 0) → Type 0
+Said none P = Unit {0}
+Said (some a) P = P a
+
+abbrev pub Prints : Reading → List ℕ → Type 0
+Prints (accepted t) ws = words images (image t) ≡ ws
+Prints (refused e p) ws = ⊥
+
+abbrev pub ComesTo : Reading → Result → Type 0
+ComesTo (accepted t) r = (v : Term) × (x : Run images (image t) v) × (words images v ≡ r .value) × (count x .calls ≡ r .applications)
+ComesTo (refused e p) r = ⊥
+
+pub record Meets (c : Case) : Type 0 where
+  pub replies : written (read (c .rule)) (replicate (c .room) 0) .reply ≡ c .reply
+  pub prints : Said (c .printed) (Prints (read (c .rule)))
+  pub comes : Said (c .result) (ComesTo (read (c .rule)))
+
+-- accepted with room to spare: the image's words, the value and the applications
+abbrev pub runs : List ℕ → ℕ → List ℕ → ℕ → Case
+runs ws n v a = record { rule = ws; room = 100; reply = success n; printed = none; result = some (record { value = v; applications = a }) }
+
+-- the reply to the writing call that is lent so many words
+abbrev pub replies : List ℕ → ℕ → Reply ℕ → Case
+replies ws room r = record { rule = ws; room = room; reply = r; printed = none; result = none }
+
+-- the image, in whole
+abbrev pub prints : List ℕ → List ℕ → Case
+prints ws i = record { rule = ws; room = 100; reply = success 27; printed = some i; result = none }
+
+-- the cases that are named again
+abbrev pub caseA : List ℕ
+caseA = 0x0600 ∷ 0x0000 ∷ []
+
+abbrev pub caseB : List ℕ
+caseB = 0x0401 ∷ 0x0201 ∷ 0x0100 ∷ 0x0600 ∷ 0x0000 ∷ []
+
+abbrev pub caseC : List ℕ
+caseC = 0x0402 ∷ 0x0202 ∷ 0x0101 ∷ 0x0600 ∷ 0x0000 ∷ 0x0601 ∷ 0x0000 ∷ []
+
+abbrev pub caseD : List ℕ
+caseD = 0x0500 ∷ 0x0601 ∷ 0x0000 ∷ 0x0702 ∷ 0x0100 ∷ 0x0800 ∷ 0x0000 ∷ 0x0100 ∷ 0x0801 ∷ 0x0000 ∷ 0x0602 ∷ 0x0000 ∷ []
+
+abbrev pub caseE : List ℕ
+caseE = 0x0603 ∷ 0x0001 ∷ 0x0401 ∷ 0x0201 ∷ 0x0100 ∷ 0x0600 ∷ 0x0000 ∷ []
+
+abbrev pub caseF : List ℕ
+caseF =
+    0x0401 ∷ 0x0301 ∷ 0x0702 ∷ 0x0100 ∷ 0x0800 ∷ 0x0000 ∷ 0x0600 ∷ 0x0000 ∷ 0x0801 ∷ 0x0001 ∷ 0x0401 ∷ 0x0102 ∷ 0x0100 ∷ 0x0601 ∷ 0x0001
+    ∷ 0x0600 ∷ 0x0000 ∷ []
+
+abbrev pub caseG : List ℕ
+caseG = 0x0601 ∷ 0x0001 ∷ 0x0600 ∷ 0x0000 ∷ []
+
+abbrev pub imageB : List ℕ
+imageB =
+    0x0401 ∷ 0x0201 ∷ 0x0401 ∷ 0x0201 ∷ 0x0401 ∷ 0x0900 ∷ 0x0202 ∷ 0x0401
+    ∷ 0x0201 ∷ 0x0401 ∷ 0x0900 ∷ 0x0100 ∷ 0x0900 ∷ 0x0201 ∷ 0x0401 ∷ 0x0201
+    ∷ 0x0401 ∷ 0x0900 ∷ 0x0600 ∷ 0x0000 ∷ 0x0201 ∷ 0x0402 ∷ 0x0901 ∷ 0x0902
+    ∷ 0x0900 ∷ 0x0201 ∷ 0x0900 ∷ []
+
+-- A to G, B's image, H to M, and N at 7 and at 8 words
+abbrev pub worked : List Case
+worked =
+    runs caseA 8 (0x0600 ∷ 0x0000 ∷ []) 2
+    ∷ runs caseB 27 (0x0600 ∷ 0x0000 ∷ []) 8
+    ∷ runs caseC 35 (0x0600 ∷ 0x0000 ∷ []) 10
+    ∷ runs caseD 41 (0x0602 ∷ 0x0000 ∷ []) 8
+    ∷ runs caseE 35 (0x0603 ∷ 0x0001 ∷ 0x0600 ∷ 0x0000 ∷ []) 10
+    ∷ runs caseF 64 (0x0600 ∷ 0x0000 ∷ []) 20
+    ∷ runs caseG 10 caseG 2
+    ∷ prints caseB imageB
+    ∷ replies [] 100 (refusal 1)
+    ∷ replies (0x0100 ∷ []) 100 (refusal 7)
+    ∷ replies (0x0401 ∷ 0x0201 ∷ 0x0100 ∷ []) 100 (refusal 3)
+    ∷ replies (0x0200 ∷ 0x0100 ∷ []) 100 (refusal 5)
+    ∷ replies (0x0600 ∷ 0x0000 ∷ 0x0600 ∷ []) 100 (refusal 8)
+    ∷ replies (0x0A00 ∷ []) 100 (refusal 4)
+    ∷ replies caseA 7 (refusal 9)
+    ∷ replies caseA 8 (success 8)
+    ∷ []
+
+abbrev pub Each : (Case → Type 0) → List Case → Type 0
+Each P [] = Unit {0}
+Each P (c ∷ cs) = P c × Each P cs
+
+-- the one claim
+abbrev pub WorkedRules : Type 0
+WorkedRules = Each Meets worked
