@@ -70,6 +70,11 @@ head-opens q w k a {r} e l i s lo hi =
     let m : w % 256 ≡ a = omega arith in
     sym (opens q w (of-kind w k a e l i) s (rw m lo) (rw m hi))
 
+-- a second word in its range
+second-is : (s : List ℕ) (at m : ℕ) → at < length s → getD s at 0 ≡ m → m ≤ mostArguments → second s at ≡ found m (at + 1)
+unfolding second
+second-is s at m t e l = simp (lt-ltb at (length s) t, e, le-leb m mostArguments l)
+
 module _ (s : List ℕ) (n at : ℕ) where
   -- such a head at a place, with a level of depth left: the term is what its parts make
   term-opens : (d k a : ℕ) {r : Row} → 1 ≤ d → at < length s → getD s at 0 ≡ head k a → a ≤ mostByte → getD kinds k noRow ≡ r → r .stands ≡ atTerm
@@ -79,10 +84,6 @@ module _ (s : List ℕ) (n at : ℕ) where
   term-opens (suc d) k a h t e l i st lo hi =
       let m : getD s at 0 % 256 ≡ a = omega arith in
       simp (lt-ltb at (length s) t, head-opens atTerm (getD s at 0) k a e l i st lo hi, m, sub-one)
-
-  second-is : (m : ℕ) → at < length s → getD s at 0 ≡ m → m ≤ mostArguments → second s at ≡ found m (at + 1)
-  unfolding second
-  second-is m t e l = simp (lt-ltb at (length s) t, e, le-leb m mostArguments l)
 
   arm-is : (p : ℕ → ℕ → Got Term) (t m k : ℕ) {b : Term} {ps : Arms} {j to : ℕ} → at < length s → getD s at 0 ≡ head 8 t → t ≤ mostByte
       → second s (at + 1) ≡ found m (at + 1 + 1) → p (n + m) (at + 1 + 1) ≡ found b j → armsOf s p n k j ≡ found ps to
@@ -124,7 +125,7 @@ module _ (s : List ℕ) where
     term-is (r-con {t} {ps} l u z) {n = n} (s-con w) d at to h e =
         term-opens s n at d 6 t (omega arith) (there h) (first-word h) l refl refl (omega arith) l
         ∙ con-is s (term s (d - 1)) n at t (size ps)
-        (second-is s n (at + 1) (size ps) (there (next-words h)) (first-word (next-words h)) u)
+        (second-is s (at + 1) (size ps) (there (next-words h)) (first-word (next-words h)) u)
         (terms-is z w (d - 1) (at + 1 + 1) to (next-words (next-words h)) (omega arith))
     term-is (r-cases {m} {ps} l u y z) {n = n} (s-cases x w) d at to h e =
         term-opens s n at d 7 (sizeᵃ ps) (omega arith) (there h) (first-word h) (omega arith) refl refl l u
@@ -144,7 +145,7 @@ module _ (s : List ℕ) where
     arms-is r-none s-none d at to h e = ap (found none) (omega (arith, h .past))
     arms-is (r-arm {t} {n = m} {b} {ps} l u y z) {n = n} (s-arm x w) d at to h e =
         arm-is s n at (term s d) t m (sizeᵃ ps) (there h) (first-word h) l
-        (second-is s n (at + 1) m (there (next-words h)) (first-word (next-words h)) u)
+        (second-is s (at + 1) m (there (next-words h)) (first-word (next-words h)) u)
         (term-is y x d (at + 1 + 1) (at + 1 + 1 + length (words rules b)) (first-run (words rules b) (wordsᵃ rules ps) (next-words (next-words h))) (omega arith))
         (arms-is z w d (at + 1 + 1 + length (words rules b)) to (second-run (words rules b) (wordsᵃ rules ps) (next-words (next-words h))) (omega arith))
 

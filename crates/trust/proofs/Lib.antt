@@ -1,3 +1,5 @@
 pub mod Rows
 pub mod Accepted
 pub mod Complete
+pub mod Ranges
+pub mod Unique

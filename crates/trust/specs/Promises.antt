@@ -2,9 +2,11 @@
 use Prim.Native.Nat.{ℕ, _<_, _^_}
 use mathlib.Core.Path.{_≡_}
 use mathlib.Core.List.{List}
+use lib.ListN.{getD}
 use Rattle.language.specs.Term.{Lang, rules, images, Term}
 use Rattle.language.specs.Words.{words}
 use Rattle.language.specs.Limits.{Ranged, Rule}
+use Rattle.language.specs.Image.{image}
 use Rattle.language.specs.Read.{read, accepted}
 
 -- what is accepted is exactly the words of its term, and that term is a rule: closed, within the ranges, the depth and the words
@@ -14,3 +16,23 @@ AcceptedAreRules = (ws : List ℕ) (t : Term) → read ws ≡ accepted t → (ws
 -- the words of every rule are accepted, with that term
 abbrev pub RulesAreAccepted : Type 0
 RulesAreAccepted = (t : Term) → Rule t → read (words rules t) ≡ accepted t
+
+-- "16-bit words": one more than the highest word
+abbrev pub wordEnd : ℕ
+wordEnd = 2 ^ 16
+
+-- every one of the words fits
+pub record Fit (ws : List ℕ) : Type 0 where
+  pub word : (i : ℕ) → getD ws i 0 < wordEnd
+
+-- the words of a term in the ranges of its language fit 16 bits
+abbrev pub WordsFit : Type 0
+WordsFit = (L : Lang) (t : Term) → Ranged L t → Fit (words L t)
+
+-- "In an image, functions and calls have 1 to 9 arguments", and indices are 0 to 255
+abbrev pub ImagesInRange : Type 0
+ImagesInRange = (t : Term) → Ranged rules t → Ranged images (image t)
+
+-- in either language the words of a term determine it, so that a statement about an image's words is one about the image
+abbrev pub WordsDetermine : Type 0
+WordsDetermine = (L : Lang) (t u : Term) → Ranged L t → Ranged L u → words L t ≡ words L u → t ≡ u
