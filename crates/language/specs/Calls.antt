@@ -4,6 +4,8 @@ use mathlib.Core.Bool.{cond}
 use mathlib.Core.List.{List, _++_}
 use lib.Dec.{ltb}
 use lib.ListN.{length, drop}
+use Rattle.language.specs.declared.Answer.{Answer}
+use Rattle.language.specs.declared.Answer.the-variants.{Count, Refusal}
 use Rattle.language.specs.Term.{images}
 use Rattle.language.specs.Words.{words}
 use Rattle.language.specs.Image.{image}
@@ -18,6 +20,14 @@ pub data Reply (A : Type 0) : Type 0 where
 pub record Outcome (A : Type 0) : Type 0 where
   pub reply : Reply A
   pub output : List ℕ
+
+-- what the code's answer means, and what it means with the output that the call left
+abbrev pub replyOf : Answer → Reply ℕ
+replyOf (Count n) = success n
+replyOf (Refusal e) = refusal e
+
+abbrev pub told : Answer → List ℕ → Outcome ℕ
+told a out = record { reply = replyOf a; output = out }
 
 -- "The checking call gives only success or the refusal"
 unfoldable pub checked : Reading → Reply (Unit {0})

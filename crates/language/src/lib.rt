@@ -128,6 +128,12 @@ pub enum Head {
     Opens(Row),
 }
 
+// A call's reply: the count that success gives, or the refusal's number.
+pub enum Answer {
+    Count(usize),
+    Refusal(u8),
+}
+
 // The row of a head word's kind.
 fn row_of(w: u16) -> Row
     ensures { λ r. ⌜ r ≡ rowOf w ⌝ }

@@ -3,7 +3,7 @@
 -- Assumes nothing.
 use Prim.Native.Nat.{ℕ, zero, suc, _+_, _*_, _≤_}
 use mathlib.Core.Path.{_≡_, refl, ap}
-use mathlib.Core.Bool.{Bool, true, false, cond, _&&_, false≢true}
+use mathlib.Core.Bool.{Bool, true, false, and-eq-true-iff, false≢true}
 use native.Mathlib.Omega.{arith}
 use lib.ListN.{length, length-append}
 use Rattle.language.specs.Term.{images, Term, Terms, Arms, var, kvar, fun, call, bind, con, cases, nil, cons, none, arm, size}
@@ -12,11 +12,6 @@ use Rattle.language.specs.Run.{atom, atoms}
 use Rattle.language.specs.Image.{passing, carried, carrieds, chain, passingᵃ, downto, calling, making, image}
 use Rattle.language.proofs.Forms.{passing-build}
 use Rattle.sizes.specs.Lengths.{passingLength, passingLengths, armLengths, imageLength}
-
--- both of two tests are true where their conjunction is
-pub both-true : (a b : Bool) → a && b ≡ true → (a ≡ true) × (b ≡ true)
-both-true true b e = (refl, e)
-both-true false b e = absurd (false≢true e)
 
 -- a test is true or false, and what each case shows is shown
 pub by-test {ℓ} : (b : Bool) {C : Type ℓ} → (b ≡ true → C) → (b ≡ false → C) → C
@@ -94,7 +89,7 @@ mutual
   pub of-carrieds : (ts : Terms) → atoms ts ≡ true → passingLengths ts ≡ length (wordsᵗ images (carrieds ts)) + 3 * size ts
   of-carrieds nil e = refl
   of-carrieds (cons t ts) e =
-      let a = both-true (atom t) (atoms ts) e in
+      let a = and-eq-true-iff (atom t) (atoms ts) .0 e in
       simp length-append (omega (arith, of-carried t (a .0), of-carrieds ts (a .1)))
 
 -- a constructor: its arguments' passing forms without three words each if they are atoms, and with three words more each if not
