@@ -27,7 +27,7 @@ filled-whole : (ws out : List ℕ) {o : List ℕ} {n : ℕ} → length ws ≤ le
 unfolding filled
 filled-whole ws out h e k = simp (le-ltb _ _ h, e, k, at-front out ws h)
 
-wordsAt-length : (bs : List ℕ) (i n : ℕ) → length (wordsAt bs i n) ≡ n
+pub wordsAt-length : (bs : List ℕ) (i n : ℕ) → length (wordsAt bs i n) ≡ n
 unfolding wordsAt
 wordsAt-length bs i zero = refl
 wordsAt-length bs i (suc n) = ap suc (wordsAt-length bs (i + 2) n)
@@ -37,7 +37,7 @@ unfolding bytesOf
 bytes-length [] = refl
 bytes-length (w ∷ ws) = omega (arith, bytes-length ws)
 
-packed-length : (f : Form) (ws : List ℕ) → length (packed f ws) ≡ headerBytes + 2 * length ws
+pub packed-length : (f : Form) (ws : List ℕ) → length (packed f ws) ≡ headerBytes + 2 * length ws
 unfolding packed
 packed-length f ws = omega (arith, bytes-length ws)
 

@@ -7,19 +7,19 @@ use Rattle.language.specs.Calls.{Outcome, success}
 use Rattle.files.specs.Files.{most, packed, packing, unpacking}
 use Rattle.files.specs.declared.Form.{Form}
 
--- each number of a list is below a bound: 2 ^ 8 for bytes, 2 ^ 16 for words
-pub record Below (b : ℕ) (l : List ℕ) : Type 0 where
-  pub each : (i : ℕ) → getD l i 0 < b
+-- the numbers of a list are bytes
+pub record Bytes (l : List ℕ) : Type 0 where
+  pub each : (i : ℕ) → getD l i 0 < 2 ^ 8
 
 -- "Packing then unpacking gives the words back": what packing wrote, unpacking accepts, and it gives those words, whatever is lent
 abbrev pub PackedUnpacks : Type 0
 PackedUnpacks =
-    (f : Form) (ws out buf : List ℕ) (n : ℕ) → Below (2 ^ 16) ws → packing f ws out .reply ≡ success n → length ws ≤ length buf
+    (f : Form) (ws out buf : List ℕ) (n : ℕ) → packing f ws out .reply ≡ success n → length ws ≤ length buf
     → (packing f ws out .output ≡ packed f ws ++ drop n out)
     × (unpacking f (packed f ws) buf ≡ record { reply = success (length ws); output = ws ++ drop (length ws) buf })
 
 -- "each accepted file is the packing of its words": the words that unpacking gives stand at the front of its output
 abbrev pub AcceptedArePacked : Type 0
 AcceptedArePacked =
-    (f : Form) (bs out : List ℕ) (n : ℕ) → Below (2 ^ 8) bs → unpacking f bs out .reply ≡ success n
+    (f : Form) (bs out : List ℕ) (n : ℕ) → Bytes bs → unpacking f bs out .reply ≡ success n
     → (ws : List ℕ) × (length ws ≡ n) × (bs ≡ packed f ws) × (unpacking f bs out .output ≡ ws ++ drop n out)

@@ -1,0 +1,197 @@
+-- Packing then unpacking gives the words back, and each accepted file is the packing of its words. What a call that succeeded went through is read
+-- off its definition, test by test; the words of a file's bytes and the bytes of its words undo each other.
+-- Assumes nothing.
+use Prim.Native.Nat.{ℕ, zero, suc, _+_, _*_, _/_, _%_, _<_, _≤_, _^_}
+use mathlib.Core.Path.{_≡_, refl, sym, ap, ap₂, _∙_, subst}
+use mathlib.Core.Bool.{Bool, true, false, cond, not, _&&_, and-eq-true-iff}
+use mathlib.Core.List.{List, [], _∷_, _++_}
+use native.Mathlib.Omega.{arith}
+use lib.Dec.{ltb, eqb}
+use lib.ListN.{length, getD, drop}
+use lib.Seq.{getD-append-add}
+use borrow.Author.Tests.{lt-ltb, le-ltb, eq-eqb, ne-eqb, eqb-true, eqb-false, ltb-false, not-true}
+use Rattle.language.specs.Calls.{Outcome, Reply, success, refusal, filled}
+use Rattle.files.specs.Files.{markL, markR, third, most, version, headerBytes, header, bytesOf, packed, wordAt, wordsAt, refuses, marked, packing, unpacking}
+use Rattle.files.specs.Promises.{Bytes, PackedUnpacks, AcceptedArePacked}
+use Rattle.files.specs.declared.Form.{Form}
+use Rattle.files.specs.declared.Form.the-variants.{Rules, Images}
+use Rattle.files.proofs.Calls.{packed-length, wordsAt-length}
+
+never : {C : Type 0} → _≡_ {A = ℕ} 0 1 → C
+never z = absurd (omega arith)
+
+-- a test that a call which succeeded passed: it held, or it did not
+module _ (b : Bool) (x : Outcome ℕ) (e : ℕ) (out : List ℕ) {n : ℕ} where
+  held : cond b x (refuses e out) .reply ≡ success n → (b ≡ true) × (cond b x (refuses e out) ≡ x)
+  held h = go b h
+    where
+      go : (b : Bool) → cond b x (refuses e out) .reply ≡ success n → (b ≡ true) × (cond b x (refuses e out) ≡ x)
+      go true h = (refl, refl)
+      go false h = never cc
+
+  failed : cond b (refuses e out) x .reply ≡ success n → (b ≡ false) × (cond b (refuses e out) x ≡ x)
+  failed h = go b h
+    where
+      go : (b : Bool) → cond b (refuses e out) x .reply ≡ success n → (b ≡ false) × (cond b (refuses e out) x ≡ x)
+      go true h = never cc
+      go false h = (refl, refl)
+
+-- what the output holds, where there was room
+pub record Filled (ws out : List ℕ) (n : ℕ) (o : Outcome ℕ) : Type 0 where
+  pub counted : n ≡ length ws
+  pub output : o .output ≡ ws ++ drop n out
+
+fills : (ws out : List ℕ) (n : ℕ) → filled ws out .reply ≡ success n → Filled ws out n (filled ws out)
+unfolding filled
+fills ws out n h = go (ltb (length out) (length ws)) h
+  where
+    go : (b : Bool) → cond b (refuses 9 out) (record { reply = success (length ws); output = ws ++ drop (length ws) out }) .reply ≡ success n
+        → Filled ws out n (cond b (refuses 9 out) (record { reply = success (length ws); output = ws ++ drop (length ws) out }))
+    go true h = never cc
+    go false h = let e : length ws ≡ n = cc in record { counted = sym e; output = ap (λ x. ws ++ drop x out) e }
+
+filled-is : (ws out : List ℕ) → length ws ≤ length out → filled ws out ≡ record { reply = success (length ws); output = ws ++ drop (length ws) out }
+unfolding filled
+filled-is ws out h = rw (le-ltb (length out) (length ws) h)
+
+-- the words of bytes behind others
+words-behind : (p bs : List ℕ) (i n : ℕ) → wordsAt (p ++ bs) (length p + i) n ≡ wordsAt bs i n
+unfolding wordsAt
+words-behind p bs i zero = refl
+words-behind p bs i (suc n) =
+    let one : length p + i + 1 ≡ length p + (i + 1) = omega arith in
+    let two : length p + i + 2 ≡ length p + (i + 2) = omega arith in
+    ap₂ _∷_ (rw (one, getD-append-add p bs i 0, getD-append-add p bs (i + 1) 0)) (rw two (words-behind p bs (i + 2) n))
+
+-- the words of the bytes of words
+words-of-bytes : (ws : List ℕ) → wordsAt (bytesOf ws) 0 (length ws) ≡ ws
+unfolding wordsAt bytesOf
+words-of-bytes [] = refl
+words-of-bytes (w ∷ ws) = ap₂ _∷_ (omega arith) (words-behind (w % 256 ∷ w / 256 ∷ []) (bytesOf ws) 0 (length ws) ∙ words-of-bytes ws)
+
+rest-bytes : {b : ℕ} {bs : List ℕ} → Bytes (b ∷ bs) → Bytes bs
+rest-bytes h = record { each = λ i. h .each (suc i) }
+
+-- the bytes of the words of bytes
+bytes-of-words : (bs : List ℕ) (n : ℕ) → Bytes bs → length bs ≡ 2 * n → bytesOf (wordsAt bs 0 n) ≡ bs
+unfolding wordsAt bytesOf
+bytes-of-words [] zero h e = refl
+bytes-of-words [] (suc n) h e = absurd (omega arith)
+bytes-of-words (a ∷ []) zero h e = absurd (omega arith)
+bytes-of-words (a ∷ []) (suc n) h e = absurd (omega arith)
+bytes-of-words (a ∷ b ∷ bs) zero h e = absurd (omega arith)
+bytes-of-words (a ∷ b ∷ bs) (suc n) h e =
+    let p = h .each 0 in
+    let l : (a + 256 * b) % 256 ≡ a = omega arith in
+    let u : (a + 256 * b) / 256 ≡ b = omega arith in
+    ap₂ _∷_ l (ap₂ _∷_ u (ap bytesOf (words-behind (a ∷ b ∷ []) bs 0 n) ∙ bytes-of-words bs n (rest-bytes (rest-bytes h)) (omega arith)))
+
+-- what packing that succeeded went through
+record Packs (f : Form) (ws out : List ℕ) : Type 0 where
+  some : length ws ≡ 0 → ⊥
+  few : length ws ≤ most f
+  is : packing f ws out ≡ filled (packed f ws) out
+
+packs : (f : Form) (ws out : List ℕ) (n : ℕ) → packing f ws out .reply ≡ success n → Packs f ws out
+unfolding packing
+packs f ws out n h =
+    let a = failed (eqb (length ws) 0) _ 1 out h in
+    let b = failed (ltb (most f) (length ws)) _ 2 out (ap (λ o. o .reply) (sym (a .1)) ∙ h) in
+    record {
+      some = eqb-false (length ws) 0 (a .0);
+      few = ltb-false (most f) (length ws) (b .0);
+      is = a .1 ∙ b .1;
+    }
+
+-- what unpacking that succeeded went through
+record Unpacks (f : Form) (bs out : List ℕ) : Type 0 where
+  mark : marked f bs ≡ true
+  first : wordAt bs 3 ≡ version
+  long : length bs ≡ headerBytes + 2 * wordAt bs 5
+  is : unpacking f bs out ≡ filled (wordsAt bs headerBytes (wordAt bs 5)) out
+
+unpacks : (f : Form) (bs out : List ℕ) (n : ℕ) → unpacking f bs out .reply ≡ success n → Unpacks f bs out
+unfolding unpacking
+unpacks f bs out n h =
+    let a = held (marked f bs) _ 10 out h in
+    let h₁ = ap (λ o. o .reply) (sym (a .1)) ∙ h in
+    let b = held (eqb (wordAt bs 3) version) _ 11 out h₁ in
+    let h₂ = ap (λ o. o .reply) (sym (b .1)) ∙ h₁ in
+    let c = held (eqb (length bs) (headerBytes + 2 * wordAt bs 5)) _ 12 out h₂ in
+    let h₃ = ap (λ o. o .reply) (sym (c .1)) ∙ h₂ in
+    let d = failed (eqb (wordAt bs 5) 0) _ 1 out h₃ in
+    let h₄ = ap (λ o. o .reply) (sym (d .1)) ∙ h₃ in
+    let e = failed (ltb (most f) (wordAt bs 5)) _ 2 out h₄ in
+    record {
+      mark = a .0;
+      first = eqb-true (wordAt bs 3) version (b .0);
+      long = eqb-true (length bs) (headerBytes + 2 * wordAt bs 5) (c .0);
+      is = a .1 ∙ b .1 ∙ c .1 ∙ d .1 ∙ e .1;
+    }
+
+-- a packed file passes every test
+packed-marked : (f : Form) (ws : List ℕ) → marked f (packed f ws) ≡ true
+unfolding packed
+packed-marked f ws = simp (le-ltb (length (packed f ws)) headerBytes (omega arith), eq-eqb (third f) (third f) refl)
+
+packed-version : (f : Form) (ws : List ℕ) → wordAt (packed f ws) 3 ≡ version
+unfolding packed
+packed-version f ws = refl
+
+packed-count : (f : Form) (ws : List ℕ) → wordAt (packed f ws) 5 ≡ length ws
+unfolding packed
+packed-count f ws = omega arith
+
+packed-words : (f : Form) (ws : List ℕ) → wordsAt (packed f ws) headerBytes (length ws) ≡ ws
+unfolding packed
+packed-words f ws = words-behind (header f (length ws)) (bytesOf ws) 0 (length ws) ∙ words-of-bytes ws
+
+unpacking-packed : (f : Form) (ws buf : List ℕ) → (length ws ≡ 0 → ⊥) → length ws ≤ most f → unpacking f (packed f ws) buf ≡ filled ws buf
+unfolding unpacking
+unpacking-packed f ws buf n l =
+    simp (packed-marked f ws, packed-version f ws, packed-count f ws, eq-eqb _ _ (packed-length f ws), ne-eqb _ _ n, le-ltb _ _ l, packed-words f ws)
+
+pub packed-unpacks : PackedUnpacks
+packed-unpacks f ws out buf n h l =
+    let p = packs f ws out n h in
+    let q = fills (packed f ws) out n (ap (λ o. o .reply) (sym (p .is)) ∙ h) in
+    (ap (λ o. o .output) (p .is) ∙ q .output, unpacking-packed f ws buf (p .some) (p .few) ∙ filled-is ws buf l)
+
+-- the three letters of a mark that was found
+letters : (f : Form) (bs : List ℕ) → marked f bs ≡ true → (getD bs 0 0 ≡ markL) × (getD bs 1 0 ≡ markR) × (getD bs 2 0 ≡ third f)
+letters f bs m =
+    let l : Bool = eqb (getD bs 0 0) markL in
+    let r : Bool = eqb (getD bs 1 0) markR in
+    let t : Bool = eqb (getD bs 2 0) (third f) in
+    let a = and-eq-true-iff l (r && t) .0 (and-eq-true-iff (not (ltb (length bs) headerBytes)) (l && (r && t)) .0 m .1) in
+    let b = and-eq-true-iff r t .0 (a .1) in
+    (eqb-true (getD bs 0 0) markL (a .0), eqb-true (getD bs 1 0) markR (b .0), eqb-true (getD bs 2 0) (third f) (b .1))
+
+-- a file that passed every test is the packing of its words: its header is the form's, and its other bytes are its words'
+is-packed : (f : Form) (bs : List ℕ) (n : ℕ) → Bytes bs → marked f bs ≡ true → wordAt bs 3 ≡ version → wordAt bs 5 ≡ n → length bs ≡ headerBytes + 2 * n
+    → bs ≡ packed f (wordsAt bs headerBytes n)
+unfolding packed
+is-packed f [] n h m v c l = absurd (omega arith)
+is-packed f (a ∷ []) n h m v c l = absurd (omega arith)
+is-packed f (a ∷ b ∷ []) n h m v c l = absurd (omega arith)
+is-packed f (a ∷ b ∷ d ∷ []) n h m v c l = absurd (omega arith)
+is-packed f (a ∷ b ∷ d ∷ v₀ ∷ []) n h m v c l = absurd (omega arith)
+is-packed f (a ∷ b ∷ d ∷ v₀ ∷ v₁ ∷ []) n h m v c l = absurd (omega arith)
+is-packed f (a ∷ b ∷ d ∷ v₀ ∷ v₁ ∷ c₀ ∷ []) n h m v c l = absurd (omega arith)
+is-packed f (a ∷ b ∷ d ∷ v₀ ∷ v₁ ∷ c₀ ∷ c₁ ∷ bs) n h m v c l =
+    let all : List ℕ = a ∷ b ∷ d ∷ v₀ ∷ v₁ ∷ c₀ ∷ c₁ ∷ bs in
+    let t = letters f all m in
+    let w : length (wordsAt all headerBytes n) ≡ n = wordsAt-length all headerBytes n in
+    let tail : Bytes bs = record { each = λ i. h .each (suc (suc (suc (suc (suc (suc (suc i))))))) } in
+    let rest : bytesOf (wordsAt all headerBytes n) ≡ bs
+    = ap bytesOf (words-behind (a ∷ b ∷ d ∷ v₀ ∷ v₁ ∷ c₀ ∷ c₁ ∷ []) bs 0 n) ∙ bytes-of-words bs n tail (omega arith) in
+    ap₂ _∷_ (t .0) (ap₂ _∷_ (t .1) (ap₂ _∷_ (t .2)
+    (ap₂ _∷_ (omega (arith, h .each 3)) (ap₂ _∷_ (omega (arith, h .each 3)) (ap₂ _∷_ (omega (arith, h .each 5)) (ap₂ _∷_ (omega (arith, h .each 5))
+    (sym rest)))))))
+
+pub accepted-are-packed : AcceptedArePacked
+accepted-are-packed f bs out n y h =
+    let p = unpacks f bs out n h in
+    let k : ℕ = wordAt bs 5 in
+    let q = fills (wordsAt bs headerBytes k) out n (ap (λ o. o .reply) (sym (p .is)) ∙ h) in
+    (wordsAt bs headerBytes k, sym (q .counted), is-packed f bs k y (p .mark) (p .first) refl (p .long), ap (λ o. o .output) (p .is) ∙ q .output)
