@@ -1,0 +1,3 @@
+pub mod Scopes
+pub mod Compose
+pub mod Forms
