@@ -1,3 +1,4 @@
 pub mod Scopes
 pub mod Compose
 pub mod Forms
+pub mod Commute
