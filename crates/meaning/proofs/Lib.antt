@@ -2,3 +2,4 @@ pub mod Scopes
 pub mod Compose
 pub mod Forms
 pub mod Commute
+pub mod Values
