@@ -3,3 +3,4 @@ pub mod Compose
 pub mod Forms
 pub mod Commute
 pub mod Values
+pub mod Steps
