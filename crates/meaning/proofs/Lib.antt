@@ -4,3 +4,4 @@ pub mod Forms
 pub mod Commute
 pub mod Values
 pub mod Steps
+pub mod Simulation
