@@ -1,6 +1,5 @@
--- The carried and the passing form of a term: a value's carried form is a value, an atom's passing form hands its carried form over, and
--- both forms name the source variables that the term names and no continuation variable from outside. By induction on the term's scope.
--- Assumes nothing.
+-- The carried and the passing form of a term: a value's carried form is a value, and both forms name the source variables that the term
+-- names and no continuation variable from outside. By induction on the term's scope. Assumes nothing.
 use Prim.Native.Nat.{ℕ, zero, suc, _+_, _≤_, _<_}
 use mathlib.Core.Bool.{Bool, true, false, cond}
 use mathlib.Core.Path.{_≡_, refl, ap}
@@ -37,16 +36,6 @@ pub size-carrieds : (ts : Terms) → size (carrieds ts) ≡ size ts
 unfolding size carrieds
 size-carrieds nil = refl
 size-carrieds (cons t ts) = ap suc (size-carrieds ts)
-
-pub passing-atom : (t : Term) → atom t ≡ true → passing t ≡ lam (to (kvar 0) (carried t))
-unfolding atom passing
-passing-atom (var i) e = refl
-passing-atom (kvar i) e = refl
-passing-atom (fun o a b) e = refl
-passing-atom (call f ps) e = cc
-passing-atom (bind m b) e = cc
-passing-atom (con t ps) e = rw e
-passing-atom (cases m ps) e = cc
 
 -- k_i, where it is bound
 pub k-scoped : (i c d : ℕ) → i < c → Scoped images c d (kvar i)

@@ -5,3 +5,4 @@ pub mod Commute
 pub mod Values
 pub mod Steps
 pub mod Simulation
+pub mod Determinism

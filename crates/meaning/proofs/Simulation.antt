@@ -10,12 +10,13 @@ use Rattle.language.specs.Scope.{Scoped, Scopedᵗ, Scopedᵃ, s-fun, s-call, s
 use Rattle.language.specs.Sub.{sub}
 use Rattle.language.specs.Run.{atoms, Value, Values, v-fun, all, rev, itself, Took, Counts, uses, _⊕_, Run, Runs, taken, built, bound, called, matched, done, then, count, counts}
 use Rattle.language.specs.Image.{lam, to, calling, making, passing, carried, carrieds, chain, passingᵃ, image}
+use Rattle.language.proofs.Forms.{passing-build}
 use Rattle.meaning.specs.Promises.{applications, Comes}
 use Rattle.meaning.proofs.Scopes.{sub-scoped}
 use Rattle.meaning.proofs.Compose.{join, sub-twice}
 use Rattle.meaning.proofs.Forms.{carried-value, k-scoped, calling-scoped, making-scoped, letting, matching, letting-scoped, matching-scoped, passing-scoped, passingᵃ-scoped, carried-scoped, chain-scoped}
 use Rattle.meaning.proofs.Values.{run-value, runs-values, runs-size, in-con, in-values, let-scoped, arm-scoped, call-scoped, run-scoped, runs-scoped}
-use Rattle.meaning.proofs.Steps.{adjust, stay, on-value, on-parts, passing-built, end-built, end-called, end-bound, end-matched}
+use Rattle.meaning.proofs.Steps.{adjust, stay, on-value, on-parts, end-built, end-called, end-bound, end-matched}
 
 -- the image of a run of t to v with the counts c: whatever the continuation `lam p` comes to when it is given v's carried form, t's passing
 -- form comes to when it is given the continuation
@@ -71,7 +72,7 @@ sim-built : {t : ℕ} {ps vs : Terms} {c : Counts} → atoms ps ≡ false → si
     → Simulatedᵗ ps vs c → Simulated (con t ps) (con t vs) (uses 0 0 0 0 1 ⊕ c)
 sim-built {t} {ps} {vs} e q vv ss = record {
       given = λ p w n l m hp k.
-        adjust (through (con t ps) (making t (size ps)) (passing-built t ps e) ss (making-scoped t (size ps)) (omega arith) hp (end-built p t vs q vv k)) (omega arith);
+        adjust (through (con t ps) (making t (size ps)) (passing-build t ps e) ss (making-scoped t (size ps)) (omega arith) hp (end-built p t vs q vv k)) (omega arith);
     }
 
 sim-bound : {m b v w : Term} {c d : Counts} → Scoped rules 0 0 m → Scoped rules 0 1 b → Scoped rules 0 0 v → Value v

@@ -1,17 +1,17 @@
 -- The steps that an image makes: a passing form is given its continuation, and a chain's ending runs once the chain's terms have come to
 -- values. Each step says how many calls, lets and matches it adds. Assumes nothing.
 use Prim.Native.Nat.{ℕ, zero, suc, _+_, _≤_, _<_}
-use mathlib.Core.Bool.{false}
 use mathlib.Core.Path.{_≡_, refl, ap, ap₂}
 use native.Mathlib.Omega.{arith}
 use Rattle.language.specs.Term.{Lang, rules, images, Term, Terms, Arms, kvar, fun, call, bind, con, cases, nil, cons, none, arm, size}
 use Rattle.language.specs.Scope.{Scoped, Scopedᵗ, Scopedᵃ, s-arm}
 use Rattle.language.specs.Sub.{look, sub, subᵗ, subᵃ}
-use Rattle.language.specs.Run.{atoms, Value, Values, v-fun, v-con, v-nil, v-cons, Enters, first, rev, itself, Took, here, there, Counts, Run, Runs, taken, bound, called, matched, done, then, count, counts}
+use Rattle.language.specs.Run.{Value, Values, v-fun, v-con, v-nil, v-cons, Enters, first, rev, itself, Took, here, there, Counts, Run, Runs, taken, bound, called, matched, done, then, count, counts}
 use Rattle.language.specs.Image.{lam, to, downto, calling, making, passing, carried, carrieds, chain, passingᵃ}
+use Rattle.language.proofs.Forms.{passing-atom}
 use Rattle.meaning.specs.Promises.{Comes}
 use Rattle.meaning.proofs.Scopes.{keep}
-use Rattle.meaning.proofs.Forms.{value-atom, carried-value, carrieds-values, size-carrieds, passing-atom, carried-scoped, passing-scoped, letting, matching}
+use Rattle.meaning.proofs.Forms.{value-atom, carried-value, carrieds-values, size-carrieds, carried-scoped, passing-scoped, letting, matching}
 use Rattle.meaning.proofs.Commute.{passing-sub}
 use Rattle.meaning.proofs.Values.{rev-values, carrieds-rev, itself-values, carrieds-itself, in-fun, in-arms}
 
@@ -74,10 +74,6 @@ on-value {v} {p} x h r =
 pub on-parts : (t z : Term) (ts : Terms) {k w : Term} {n l m : ℕ} → passing t ≡ lam (chain ts z) → Value k → Comes (sub 0 0 (cons k nil) nil (chain ts z)) w n l m
     → Comes (to (passing t) k) w (suc n) l m
 on-parts t z ts e kv r = rw e (enter kv r)
-
-pub passing-built : (t : ℕ) (ps : Terms) → atoms ps ≡ false → passing (con t ps) ≡ lam (chain ps (making t (size ps)))
-unfolding passing
-passing-built t ps e = rw e
 
 -- the values that a chain's terms came to stand behind the continuation variables in order
 look-rev : (ws acc : Terms) (i j : ℕ) (e : Term) → i ≡ size ws + j → look 0 (rev ws acc) i e ≡ look 0 acc j e
