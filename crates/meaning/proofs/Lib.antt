@@ -6,3 +6,4 @@ pub mod Values
 pub mod Steps
 pub mod Simulation
 pub mod Determinism
+pub mod Promises
