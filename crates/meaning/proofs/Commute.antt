@@ -5,11 +5,11 @@ use Prim.Native.Nat.{ℕ, zero, suc, _+_, _≤_}
 use mathlib.Core.Bool.{Bool, true, false, cond, _&&_}
 use mathlib.Core.Path.{_≡_, refl, ap, ap₂}
 use native.Mathlib.Omega.{arith}
-use Rattle.language.specs.Term.{Lang, rules, images, Term, Terms, Arms, var, kvar, fun, call, bind, con, cases, nil, cons, none, arm, size}
-use Rattle.language.specs.Scope.{HasK, Scoped, Scopedᵗ, Scopedᵃ, s-var, s-kvar, s-fun, s-call, s-bind, s-con, s-cases, s-nil, s-cons, s-none, s-arm}
+use Rattle.language.specs.Term.{rules, images, Term, Terms, Arms, var, kvar, fun, call, bind, con, cases, nil, cons, arm, size}
+use Rattle.language.specs.Scope.{Scoped, Scopedᵗ, Scopedᵃ, s-var, s-kvar, s-fun, s-call, s-bind, s-con, s-cases, s-nil, s-cons, s-none, s-arm}
 use Rattle.language.specs.Sub.{look, sub, subᵗ, subᵃ}
-use Rattle.language.specs.Run.{atom, atoms, Value, Values, v-fun, v-con, v-nil, v-cons}
-use Rattle.language.specs.Image.{lam, to, calling, making, passing, carried, carrieds, chain, passingᵃ}
+use Rattle.language.specs.Run.{atom, atoms, Values, v-nil, v-cons}
+use Rattle.language.specs.Image.{lam, to, passing, carried, carrieds, chain, passingᵃ}
 use Rattle.language.proofs.Forms.{passing-atom}
 use Rattle.meaning.proofs.Scopes.{keep}
 use Rattle.meaning.proofs.Forms.{value-atom, calling-scoped, making-scoped, letting, matching}
@@ -84,7 +84,8 @@ module _ (ks xs : Terms) (xv : Values xs) where
         ap (function o a) (passing-sub b (suc dk) (dx + a + o) (suc (suc dk')) (dx' + 0 + 0 + a + o) (omega arith))
     passing-sub (s-call {ps} f hs) dk dx dk' dx' e =
         ap₂ (λ x y. lam (before x y)) (passing-sub f dk dx (suc dk') (dx' + 0 + 0) (omega arith))
-        (rw (size-sub dk dx nil xs ps) (chain-sub hs (calling-scoped (size ps)) dk dx (suc (suc dk')) (dx' + 0 + 0 + 0 + 0) (omega arith) (omega arith)))
+        (rw (size-sub dk dx nil xs ps)
+        (chain-sub hs (calling-scoped (size ps)) dk dx (suc (suc dk')) (dx' + 0 + 0 + 0 + 0) (omega arith) (omega arith)))
     passing-sub (s-bind m b) dk dx dk' dx' e =
         ap₂ (λ x y. lam (before x (letting y))) (passing-sub m dk dx (suc dk') (dx' + 0 + 0) (omega arith))
         (passing-sub b dk (suc dx) (suc (suc dk')) (suc (dx' + 0 + 0 + 0 + 0)) (omega arith))

@@ -1,10 +1,10 @@
 -- Closed terms put in twice are put in once: first those for the outer variables, then those for the inner ones, or all together. One law
 -- for both kinds of variables, by induction on the term. Assumes nothing.
-use Prim.Native.Nat.{ℕ, zero, suc, _+_, _≤_, _<_}
+use Prim.Native.Nat.{ℕ, zero, suc, _+_}
 use mathlib.Core.Path.{_≡_, refl, ap, ap₂}
 use native.Mathlib.Omega.{arith}
-use Rattle.language.specs.Term.{Lang, rules, images, Term, Terms, Arms, var, kvar, fun, call, bind, con, cases, nil, cons, none, arm, size}
-use Rattle.language.specs.Scope.{HasK, Scoped, Scopedᵗ, s-nil, s-cons}
+use Rattle.language.specs.Term.{Lang, Term, Terms, Arms, var, kvar, fun, call, bind, con, cases, nil, cons, none, arm, size}
+use Rattle.language.specs.Scope.{Scoped, Scopedᵗ, s-nil, s-cons}
 use Rattle.language.specs.Sub.{nth, look, sub, subᵗ, subᵃ}
 use Rattle.meaning.proofs.Scopes.{keep}
 

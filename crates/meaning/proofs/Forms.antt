@@ -4,10 +4,10 @@ use Prim.Native.Nat.{ℕ, zero, suc, _+_, _≤_, _<_}
 use mathlib.Core.Bool.{Bool, true, false, cond}
 use mathlib.Core.Path.{_≡_, refl, ap}
 use native.Mathlib.Omega.{arith}
-use Rattle.language.specs.Term.{Lang, rules, images, Term, Terms, Arms, var, kvar, fun, call, bind, con, cases, nil, cons, none, arm, size}
-use Rattle.language.specs.Scope.{HasK, Scoped, Scopedᵗ, Scopedᵃ, s-var, s-kvar, s-fun, s-call, s-bind, s-con, s-cases, s-nil, s-cons, s-none, s-arm}
+use Rattle.language.specs.Term.{Lang, rules, images, Term, Terms, Arms, kvar, fun, bind, cases, nil, cons, size}
+use Rattle.language.specs.Scope.{Scoped, Scopedᵗ, Scopedᵃ, s-var, s-kvar, s-fun, s-call, s-bind, s-con, s-cases, s-nil, s-cons, s-none, s-arm}
 use Rattle.language.specs.Run.{atom, atoms, Value, Values, v-fun, v-con, v-nil, v-cons}
-use Rattle.language.specs.Image.{lam, to, downto, calling, making, passing, carried, carrieds, chain, passingᵃ}
+use Rattle.language.specs.Image.{to, downto, calling, making, passing, carried, carrieds, chain, passingᵃ}
 use Rattle.meaning.proofs.Scopes.{widen}
 
 mutual
@@ -123,8 +123,8 @@ mutual
   carrieds-scoped (s-cons t ts) c' d' e = s-cons (carried-scoped t c' d' e) (carrieds-scoped ts c' d' e)
 
   -- the chain binds a continuation variable for each of its terms
-  pub chain-scoped : {c d : ℕ} {ts : Terms} → Scopedᵗ rules c d ts → {n : ℕ} {z : Term} → Scoped images n 0 z → (c' d' : ℕ) → n ≤ size ts + c' → d ≤ d'
-      → Scoped images c' d' (chain ts z)
+  pub chain-scoped : {c d : ℕ} {ts : Terms} → Scopedᵗ rules c d ts → {n : ℕ} {z : Term} → Scoped images n 0 z → (c' d' : ℕ)
+      → n ≤ size ts + c' → d ≤ d' → Scoped images c' d' (chain ts z)
   chain-scoped s-nil z c' d' h e = widen z c' d' (omega arith) (omega arith)
   chain-scoped (s-cons t ts) z c' d' h e =
       to-scoped (passing-scoped t c' d' e) (s-fun (chain-scoped ts z (suc c') (same d') (omega arith) (omega arith)))
@@ -132,4 +132,5 @@ mutual
   pub passingᵃ-scoped : {c d : ℕ} {ps : Arms} → Scopedᵃ rules c d ps → (c' d' : ℕ) → d ≤ d' → Scopedᵃ images (suc (suc c')) d' (passingᵃ ps)
   passingᵃ-scoped s-none c' d' e = s-none
   passingᵃ-scoped (s-arm {n} b ps) c' d' e =
-      s-arm (to-scoped (passing-scoped b (suc (suc c')) (d' + n) (omega arith)) (k-scoped 1 (suc (suc c')) (d' + n) (omega arith))) (passingᵃ-scoped ps c' d' e)
+      s-arm (to-scoped (passing-scoped b (suc (suc c')) (d' + n) (omega arith)) (k-scoped 1 (suc (suc c')) (d' + n) (omega arith)))
+      (passingᵃ-scoped ps c' d' e)

@@ -1,12 +1,9 @@
 -- The promises of specs/Promises.antt, each under its name. Assumes nothing.
-use Prim.Native.Nat.{ℕ}
 use mathlib.Core.Path.{_≡_, refl, ap, ap₂}
-use Rattle.language.specs.Term.{rules, images, Term, Terms, con, cons}
-use Rattle.language.specs.Scope.{Scoped}
-use Rattle.language.specs.Run.{Run, count}
-use Rattle.language.specs.Image.{image, carried, carrieds}
+use Rattle.language.specs.Term.{Term, Terms, con, cons}
+use Rattle.language.specs.Image.{carried, carrieds}
 use Rattle.trust.proofs.Accepted.{accepted-rule}
-use Rattle.meaning.specs.Promises.{Comes, Plain, Plainᵗ, p-con, p-nil, p-cons, PlainIsCarried, RunsAreDetermined, Demand3, Demand3OfWords}
+use Rattle.meaning.specs.Promises.{Plain, Plainᵗ, p-con, p-nil, p-cons, PlainIsCarried, RunsAreDetermined, Demand3, Demand3OfWords}
 use Rattle.meaning.proofs.Simulation.{image-comes}
 use Rattle.meaning.proofs.Determinism.{same-run}
 

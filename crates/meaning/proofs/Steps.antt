@@ -1,12 +1,13 @@
 -- The steps that an image makes: a passing form is given its continuation, and a chain's ending runs once the chain's terms have come to
 -- values. Each step says how many calls, lets and matches it adds. Assumes nothing.
-use Prim.Native.Nat.{ℕ, zero, suc, _+_, _≤_, _<_}
+use Prim.Native.Nat.{ℕ, suc, _+_, _≤_}
 use mathlib.Core.Path.{_≡_, refl, ap, ap₂}
 use native.Mathlib.Omega.{arith}
-use Rattle.language.specs.Term.{Lang, rules, images, Term, Terms, Arms, kvar, fun, call, bind, con, cases, nil, cons, none, arm, size}
-use Rattle.language.specs.Scope.{Scoped, Scopedᵗ, Scopedᵃ, s-arm}
+use Rattle.language.specs.Term.{Lang, rules, images, Term, Terms, Arms, kvar, fun, call, con, nil, cons, size}
+use Rattle.language.specs.Scope.{Scoped, Scopedᵃ, s-arm}
 use Rattle.language.specs.Sub.{look, sub, subᵗ, subᵃ}
-use Rattle.language.specs.Run.{Value, Values, v-fun, v-con, v-nil, v-cons, Enters, first, rev, itself, Took, here, there, Counts, Run, Runs, taken, bound, called, matched, done, then, count, counts}
+use Rattle.language.specs.Run.{Value, Values, v-fun, v-con, v-nil, v-cons, first, rev, itself, Took, here, there}
+use Rattle.language.specs.Run.{Run, Runs, taken, bound, called, matched, done, then, Counts, count, counts}
 use Rattle.language.specs.Image.{lam, to, downto, calling, making, passing, carried, carrieds, chain, passingᵃ}
 use Rattle.language.proofs.Forms.{passing-atom}
 use Rattle.meaning.specs.Promises.{Comes}
@@ -15,36 +16,31 @@ use Rattle.meaning.proofs.Forms.{value-atom, carried-value, carrieds-va
 use Rattle.meaning.proofs.Commute.{passing-sub}
 use Rattle.meaning.proofs.Values.{rev-values, carrieds-rev, itself-values, carrieds-itself, in-fun, in-arms}
 
+-- a run, with what its counts are
+abbrev Counted : Counts → ℕ → ℕ → ℕ → Type 0
+Counted c n l m = (c .calls ≡ n) × (c .lets ≡ l) × (c .matches ≡ m)
+
+pub comes : {t w : Term} {n l m : ℕ} (r : Run images t w) → Counted (count r) n l m → Comes t w n l m
+comes r e = record { run = r; in-calls = e .0; in-lets = e .1; in-matches = e .2 }
+
 pub adjust : {t w : Term} {n l m n' l' m' : ℕ} → Comes t w n l m → (n ≡ n') × (l ≡ l') × (m ≡ m') → Comes t w n' l' m'
-adjust r e = record { run = r .run; in-calls = omega arith; in-lets = omega arith; in-matches = omega arith }
+adjust r e = comes (r .run) (omega arith)
 
 -- values are taken whole, by no call, let or match
 pub taken-all : {L : Lang} {vs : Terms} → Values vs → Runs L vs vs
 taken-all v-nil = done
 taken-all (v-cons v vs) = then (taken v) (taken-all vs)
 
-record Free (c : Counts) : Type 0 where
-  no-calls : c .calls ≡ 0
-  no-lets : c .lets ≡ 0
-  no-matches : c .matches ≡ 0
-
-taken-free : (L : Lang) {vs : Terms} (h : Values vs) → Free (counts (taken-all {L = L} h))
+taken-free : (L : Lang) {vs : Terms} (h : Values vs) → Counted (counts (taken-all {L = L} h)) 0 0 0
 unfolding taken-all count
-taken-free L v-nil = record { no-calls = refl; no-lets = refl; no-matches = refl }
-taken-free L (v-cons v vs) = let r = taken-free L vs in record { no-calls = omega arith; no-lets = omega arith; no-matches = omega arith }
+taken-free L v-nil = (refl, refl, refl)
+taken-free L (v-cons v vs) = omega (arith, taken-free L vs)
 
 -- a function is called with a continuation and values
 pub apply : {o a : ℕ} {b k w : Term} {ws : Terms} {n l m : ℕ} → Value k → Values ws → size ws ≡ a
     → Comes (sub 0 0 (cons k nil) (rev ws (itself o (fun o a b))) b) w n l m → Comes (call (fun o a b) (cons k ws)) w (suc n) l m
 unfolding count
-apply kv wv e r =
-    let f = taken-free images wv in
-    record {
-      run = called (taken v-fun) (then (taken kv) (taken-all wv)) first e (r .run);
-      in-calls = omega arith;
-      in-lets = omega arith;
-      in-matches = omega arith;
-    }
+apply kv wv e r = comes (called (taken v-fun) (then (taken kv) (taken-all wv)) first e (r .run)) (omega (arith, taken-free images wv))
 
 -- a function that wants only a continuation is given it
 pub enter : {b k w : Term} {n l m : ℕ} → Value k → Comes (sub 0 0 (cons k nil) nil b) w n l m → Comes (to (lam b) k) w (suc n) l m
@@ -68,11 +64,12 @@ pub on-value : {v p w : Term} {n l m : ℕ} → Value v → Scoped rules 0 0 v �
     → Comes (to (passing v) (lam p)) w (suc (suc n)) l m
 unfolding sub
 on-value {v} {p} x h r =
-    rw (passing-atom v (value-atom x)) (enter v-fun (rw (shut (carried-scoped h 0 0 (omega arith)) (cons (lam p) nil) nil 0 0) (enter (carried-value x) r)))
+    rw (passing-atom v (value-atom x))
+    (enter v-fun (rw (shut (carried-scoped h 0 0 (omega arith)) (cons (lam p) nil) nil 0 0) (enter (carried-value x) r)))
 
 -- a term of parts: its passing form is given a continuation, which the chain over the parts is then to reach
-pub on-parts : (t z : Term) (ts : Terms) {k w : Term} {n l m : ℕ} → passing t ≡ lam (chain ts z) → Value k → Comes (sub 0 0 (cons k nil) nil (chain ts z)) w n l m
-    → Comes (to (passing t) k) w (suc n) l m
+pub on-parts : (t z : Term) (ts : Terms) {k w : Term} {n l m : ℕ} → passing t ≡ lam (chain ts z) → Value k
+    → Comes (sub 0 0 (cons k nil) nil (chain ts z)) w n l m → Comes (to (passing t) k) w (suc n) l m
 on-parts t z ts e kv r = rw e (enter kv r)
 
 -- the values that a chain's terms came to stand behind the continuation variables in order
@@ -97,7 +94,8 @@ unfolding sub
 making-sub t ws k = ap₂ (λ x y. to x (con t y)) (look-rev ws (cons k nil) (size ws) 0 (kvar (size ws)) (omega arith)) (downto-sub ws (cons k nil))
 
 -- the ending of a constructor: the continuation is given the constructor of the values
-pub end-built : (p : Term) (t : ℕ) (vs : Terms) {w : Term} {i n l m : ℕ} → size vs ≡ i → Values vs → Comes (sub 0 0 (cons (carried (con t vs)) nil) nil p) w n l m
+pub end-built : (p : Term) (t : ℕ) (vs : Terms) {w : Term} {i n l m : ℕ} → size vs ≡ i → Values vs
+    → Comes (sub 0 0 (cons (carried (con t vs)) nil) nil p) w n l m
     → Comes (sub 0 0 (rev (carrieds vs) (cons (lam p) nil)) nil (making t i)) w (suc n) l m
 unfolding carried
 end-built p t vs e vv r = rw (← e, ← (size-carrieds vs), making-sub t (carrieds vs) (lam p)) (enter (v-con (carrieds-values vv)) r)
@@ -116,13 +114,14 @@ end-called {o} {a} {b} {k} {w} vs {n} {l} {m} e e' kv vv hf r =
 
 -- the ending of a let: the value goes in for x_0 of the body's passing form
 pub end-bound : {v b k w : Term} {n l m : ℕ} → Value v → Scoped rules 0 1 b → Scoped images 0 0 k
-    → Comes (to (passing (sub 0 0 nil (cons v nil) b)) k) w n l m → Comes (sub 0 0 (cons (carried v) (cons k nil)) nil (letting (passing b))) w n (suc l) m
+    → Comes (to (passing (sub 0 0 nil (cons v nil) b)) k) w n l m
+    → Comes (sub 0 0 (cons (carried v) (cons k nil)) nil (letting (passing b))) w n (suc l) m
 unfolding sub carrieds rev count
 end-bound {v} {b} {k} {w} {n} {l} {m} x hb hk r =
     let inside : Comes (sub 0 0 nil (cons (carried v) nil) (to (passing b) k)) w n l m
     = rw (put-in {xs = cons v nil} {acc = nil} nil (v-cons x v-nil) v-nil hb, shut hk nil (cons (carried v) nil) 0 0) r in
     rw (stay hb (cons (carried v) (cons k nil)) nil 0 1 (omega arith))
-    record { run = bound (taken (carried-value x)) (inside .run); in-calls = omega arith; in-lets = omega arith; in-matches = omega arith }
+    (comes (bound (taken (carried-value x)) (inside .run)) (omega arith))
 
 -- the image takes the arm that the rule takes
 pub took-image : (v k : Term) {t n : ℕ} {ps : Arms} {b : Term} → Took t n ps b → Scopedᵃ rules 0 0 ps
@@ -132,8 +131,8 @@ took-image v k (here {n'} e f) (s-arm b ps) = rw (stay b (cons v (cons k nil)) n
 took-image v k (there e y) (s-arm b ps) = there e (took-image v k y ps)
 
 -- the ending of a match: the constructor's arguments go in for the variables of the arm's passing form
-pub end-matched : {t : ℕ} {b k w : Term} (vs : Terms) (ps : Arms) {n l m : ℕ} → Took t (size vs) ps b → Values vs → Scopedᵃ rules 0 0 ps → Scoped images 0 0 k
-    → Comes (to (passing (sub 0 0 nil (rev vs nil) b)) k) w n l m
+pub end-matched : {t : ℕ} {b k w : Term} (vs : Terms) (ps : Arms) {n l m : ℕ} → Took t (size vs) ps b → Values vs → Scopedᵃ rules 0 0 ps
+    → Scoped images 0 0 k → Comes (to (passing (sub 0 0 nil (rev vs nil) b)) k) w n l m
     → Comes (sub 0 0 (cons (carried (con t vs)) (cons k nil)) nil (matching (passingᵃ ps))) w n l (suc m)
 unfolding sub carried count
 end-matched {t} {b} {k} {w} vs ps {n} {l} {m} y vv hs hk r =
@@ -141,4 +140,4 @@ end-matched {t} {b} {k} {w} vs ps {n} {l} {m} y vv hs hk r =
     = rw (put-in nil vv v-nil (in-arms y hs), shut hk nil (rev (carrieds vs) nil) 0 0) r in
     let took : Took t (size (carrieds vs)) (subᵃ 0 0 (cons (con t (carrieds vs)) (cons k nil)) nil (passingᵃ ps)) (to (passing b) k)
     = rw (size-carrieds vs) (took-image (con t (carrieds vs)) k y hs) in
-    record { run = matched (taken (v-con (carrieds-values vv))) took (inside .run); in-calls = omega arith; in-lets = omega arith; in-matches = omega arith }
+    comes (matched (taken (v-con (carrieds-values vv))) took (inside .run)) (omega arith)

@@ -1,11 +1,12 @@
 -- What a run comes to, in either language: a value, and a closed one where the term is closed. By induction on the run. Assumes nothing.
-use Prim.Native.Nat.{ℕ, zero, suc, _+_, _≤_, _<_}
+use Prim.Native.Nat.{ℕ, zero, suc, _+_, _≤_}
 use mathlib.Core.Path.{_≡_, refl, ap}
 use native.Mathlib.Omega.{arith}
-use Rattle.language.specs.Term.{Lang, rules, images, Term, Terms, Arms, fun, call, bind, con, cases, nil, cons, none, arm, size}
-use Rattle.language.specs.Scope.{HasK, Scoped, Scopedᵗ, Scopedᵃ, s-fun, s-call, s-bind, s-con, s-cases, s-nil, s-cons, s-none, s-arm}
+use Rattle.language.specs.Term.{Lang, Term, Terms, Arms, fun, con, nil, cons, size}
+use Rattle.language.specs.Scope.{HasK, Scoped, Scopedᵗ, Scopedᵃ, s-fun, s-call, s-bind, s-con, s-cases, s-nil, s-cons, s-arm}
 use Rattle.language.specs.Sub.{sub}
-use Rattle.language.specs.Run.{Value, Values, v-fun, v-con, v-nil, v-cons, Enters, all, first, rev, itself, Took, here, there, Run, Runs, taken, built, bound, called, matched, done, then}
+use Rattle.language.specs.Run.{Value, Values, v-con, v-nil, v-cons, Enters, all, first, rev, itself, Took, here, there}
+use Rattle.language.specs.Run.{Run, Runs, taken, built, bound, called, matched, done, then}
 use Rattle.language.specs.Image.{carried, carrieds}
 use Rattle.meaning.proofs.Scopes.{sub-scoped}
 
