@@ -7,3 +7,4 @@ pub mod Steps
 pub mod Simulation
 pub mod Determinism
 pub mod Promises
+pub mod Worked
