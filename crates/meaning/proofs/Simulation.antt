@@ -19,7 +19,7 @@ use Rattle.meaning.proofs.Forms.{letting, matching, k-scoped, calling-s
 use Rattle.meaning.proofs.Forms.{carried-value, carried-scoped, passing-scoped, passingᵃ-scoped, chain-scoped}
 use Rattle.meaning.proofs.Values.{run-value, runs-values, runs-size, in-con, in-values}
 use Rattle.meaning.proofs.Values.{let-scoped, arm-scoped, call-scoped, run-scoped, runs-scoped}
-use Rattle.meaning.proofs.Steps.{comes, adjust, stay, on-value, on-parts, end-built, end-called, end-bound, end-matched}
+use Rattle.meaning.proofs.Steps.{comes, adjust, stay, enter, on-value, end-built, end-called, end-bound, end-matched}
 
 -- the image of a run of t to v with the counts c: whatever the continuation `lam p` comes to when it is given v's carried form, t's passing
 -- form comes to when it is given the continuation
@@ -46,6 +46,7 @@ pub chain-next : (v z : Term) (ts : Terms) {ks : Terms} → Scopedᵗ images 0 0
 unfolding join size
 chain-next v z ts hk = sub-twice (cons v nil) nil hk s-nil (chain ts z) 0 0 1 0 refl refl
 
+-- no terms, and one before others
 sim-done : Simulatedᵗ nil nil (uses 0 0 0 0 0)
 unfolding chain rev carrieds
 sim-done = record { given = λ ks z w i n l m hk hz h k. adjust k (omega arith) }
@@ -53,7 +54,7 @@ sim-done = record { given = λ ks z w i n l m hk hz h k. adjust k (omega arith) 
 sim-then : {t v : Term} {ts vs : Terms} {c d : Counts} → Scoped rules 0 0 t → Scopedᵗ rules 0 0 ts → Scoped rules 0 0 v
     → Simulated t v c → Simulatedᵗ ts vs d → Simulatedᵗ (cons t ts) (cons v vs) (c ⊕ d)
 unfolding chain rev carrieds sub size
-sim-then {t} {v} {ts} {vs} {c} {d} ht hs hv s ss = record {
+sim-then {v} {ts} ht hs hv s ss = record {
   given = λ ks z w i n l m hk hz h k.
       let rest = ss .given (cons (carried v) ks) z w i n l m (s-cons (carried-scoped hv 0 0 (omega arith)) hk) hz (omega arith) k in
       let next = rw (← (chain-next (carried v) z ts hk)) at rest in
@@ -67,9 +68,10 @@ through : (t z : Term) {ts vs : Terms} {c : Counts} {p w : Term} {i n l m : ℕ}
     → Scoped images i 0 z → i ≤ suc (size ts) → Scoped images 1 0 p → Comes (sub 0 0 (rev (carrieds vs) (cons (lam p) nil)) nil z) w n l m
     → Comes (to (passing t) (lam p)) w (suc (n + applications c)) (l + c .lets) (m + c .matches)
 unfolding size
-through t z {ts} {p} {w} {i} {n} {l} {m} e ss hz h hp k =
-    on-parts t z ts e v-fun (ss .given (cons (lam p) nil) z w i n l m (s-cons (s-fun hp) s-nil) hz (omega arith) k)
+through t z {p} {w} {i} {n} {l} {m} e ss hz h hp k =
+    rw e (enter v-fun (ss .given (cons (lam p) nil) z w i n l m (s-cons (s-fun hp) s-nil) hz (omega arith) k))
 
+-- the rules of the relation, one by one
 sim-taken : {v : Term} → Value v → Scoped rules 0 0 v → Simulated v v (uses 1 0 0 0 0)
 sim-taken x h = record { given = λ p w n l m hp k. adjust (on-value x h k) (omega arith) }
 

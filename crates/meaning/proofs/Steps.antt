@@ -8,7 +8,7 @@ use Rattle.language.specs.Scope.{Scoped, Scopedᵃ, s-arm}
 use Rattle.language.specs.Sub.{look, sub, subᵗ, subᵃ}
 use Rattle.language.specs.Run.{Value, Values, v-fun, v-con, v-nil, v-cons, first, rev, itself, Took, here, there}
 use Rattle.language.specs.Run.{Run, Runs, taken, bound, called, matched, done, then, Counts, count, counts}
-use Rattle.language.specs.Image.{lam, to, downto, calling, making, passing, carried, carrieds, chain, passingᵃ}
+use Rattle.language.specs.Image.{lam, to, downto, calling, making, passing, carried, carrieds, passingᵃ}
 use Rattle.language.proofs.Forms.{passing-atom}
 use Rattle.meaning.specs.Promises.{Comes}
 use Rattle.meaning.proofs.Scopes.{keep}
@@ -16,7 +16,7 @@ use Rattle.meaning.proofs.Forms.{value-atom, carried-value, carrieds-va
 use Rattle.meaning.proofs.Commute.{passing-sub}
 use Rattle.meaning.proofs.Values.{rev-values, carrieds-rev, itself-values, carrieds-itself, in-fun, in-arms}
 
--- a run, with what its counts are
+-- so many calls, lets and matches
 abbrev Counted : Counts → ℕ → ℕ → ℕ → Type 0
 Counted c n l m = (c .calls ≡ n) × (c .lets ≡ l) × (c .matches ≡ m)
 
@@ -67,12 +67,7 @@ on-value {v} {p} x h r =
     rw (passing-atom v (value-atom x))
     (enter v-fun (rw (shut (carried-scoped h 0 0 (omega arith)) (cons (lam p) nil) nil 0 0) (enter (carried-value x) r)))
 
--- a term of parts: its passing form is given a continuation, which the chain over the parts is then to reach
-pub on-parts : (t z : Term) (ts : Terms) {k w : Term} {n l m : ℕ} → passing t ≡ lam (chain ts z) → Value k
-    → Comes (sub 0 0 (cons k nil) nil (chain ts z)) w n l m → Comes (to (passing t) k) w (suc n) l m
-on-parts t z ts e kv r = rw e (enter kv r)
-
--- the values that a chain's terms came to stand behind the continuation variables in order
+-- of terms put in last first, before acc: those past ws are acc's; and k_(n-1) down to k_0 are the n terms ws in their order
 look-rev : (ws acc : Terms) (i j : ℕ) (e : Term) → i ≡ size ws + j → look 0 (rev ws acc) i e ≡ look 0 acc j e
 unfolding look rev size
 look-rev nil acc i j e h = ap (λ x. look 0 acc x e) (omega arith)
@@ -83,6 +78,7 @@ unfolding rev size subᵗ downto
 downto-sub nil acc = refl
 downto-sub (cons w ws) acc = ap₂ cons (look-rev ws (cons w acc) (size ws) 0 (kvar (size ws)) (omega arith)) (downto-sub ws (cons w acc))
 
+-- what the endings of a call and of a constructor become
 pub calling-sub : (ws : Terms) (f k : Term) → sub 0 0 (rev ws (cons f (cons k nil))) nil (calling (size ws)) ≡ call f (cons k ws)
 unfolding sub
 calling-sub ws f k =
