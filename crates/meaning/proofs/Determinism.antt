@@ -1,0 +1,71 @@
+-- Two runs of one term, in either language, come to the same value by the same rules: at each term one rule fits, and what it goes on with
+-- is decided by what came before. By induction on the first run. Assumes nothing.
+use Prim.Native.Nat.{ℕ}
+use mathlib.Core.Bool.{false, false≢true}
+use mathlib.Core.Path.{_≡_, refl, ap, ap₂, sym, _∙_, subst}
+use Rattle.language.specs.Term.{Lang, Term, Terms, Arms, fun, con, nil, cons}
+use Rattle.language.specs.Sub.{sub}
+use Rattle.language.specs.Run.{atoms, Values, v-fun, v-con, Enters, all, first, rev, itself, Took, here, there}
+use Rattle.language.specs.Run.{Run, Runs, taken, built, bound, called, matched, done, then, uses, _⊕_, count, counts}
+use Rattle.meaning.proofs.Forms.{values-atoms}
+
+-- values are atoms, so a constructor that is no value is not built of them
+pub no-atoms : {vs : Terms} → Values vs → atoms vs ≡ false → ⊥
+no-atoms h e = false≢true (sym e ∙ values-atoms h)
+
+pub enters-same : {L : Lang} {vs vs' ks ks' xs xs' : Terms} → Enters L vs ks xs → Enters L vs' ks' xs' → vs ≡ vs' → (ks ≡ ks') × (xs ≡ xs')
+enters-same all all e = (refl, e)
+enters-same first first e = (cc, cc)
+
+pub took-same : {t t' n n' : ℕ} {ps : Arms} {b b' : Term} → Took t n ps b → Took t' n' ps b' → t ≡ t' → b ≡ b'
+took-same (here p q) (here p' q') e = refl
+took-same (here p q) (there x k) e = absurd (x (sym e ∙ p))
+took-same (there x k) (here p q) e = absurd (x (e ∙ p))
+took-same (there x k) (there x' k') e = took-same k k' e
+
+-- the bodies that two calls, or two matches, go on with
+call-same : {L : Lang} {vs vs' ks ks' xs xs' : Terms} {b b' : Term} {o o' a a' : ℕ} → Enters L vs ks xs → Enters L vs' ks' xs'
+    → fun o a b ≡ fun o' a' b' → vs ≡ vs' → sub 0 0 ks (rev xs (itself o (fun o a b))) b ≡ sub 0 0 ks' (rev xs' (itself o' (fun o' a' b'))) b'
+call-same {b} {b'} {o} {o'} e e' p q = let (r, r') = enters-same e e' q in let y : o ≡ o' = cc in let z : b ≡ b' = cc in cc
+
+match-same : {vs vs' : Terms} {b b' : Term} {t t' n n' : ℕ} {ps : Arms} → Took t n ps b → Took t' n' ps b' → con t vs ≡ con t' vs'
+    → sub 0 0 nil (rev vs nil) b ≡ sub 0 0 nil (rev vs' nil) b'
+match-same {vs} {vs'} k k' p = let y = took-same k k' (cc) in let z : vs ≡ vs' = cc in cc
+
+-- the value and the counts of the run s are those of the run r, which may be of another term
+abbrev Same : {L : Lang} {t t' v v' : Term} → Run L t v → Run L t' v' → Type 0
+Same {v} {v'} s r = (v ≡ v') × (count s ≡ count r)
+
+-- what holds of every run of one term holds of every run of an equal one
+along : {L : Lang} {t t' v v' : Term} (s : Run L t v) → t ≡ t' → ((r : Run L t v') → Same s r) → (r : Run L t' v') → Same s r
+along {L} {v'} s p h = subst (λ x. (r : Run L x v') → Same s r) p h
+
+mutual
+  unfolding count
+
+  pub same-run : {L : Lang} {t v v' : Term} (r : Run L t v) (r' : Run L t v') → Same r r'
+  same-run (taken v-fun) (taken y) = (refl, refl)
+  same-run (taken (v-con vs)) (taken y) = (refl, refl)
+  same-run (taken (v-con vs)) (built e r) = absurd (no-atoms vs e)
+  same-run (built e r) (taken (v-con vs)) = absurd (no-atoms vs e)
+  same-run (built {t} e r) (built e' r') = let (p, q) = same-runs r r' in (ap (con t) p, λ i. uses 0 0 0 0 1 ⊕ q i)
+  same-run (bound {b} r s) (bound r' s') =
+      let (p, q) = same-run r r' in
+      let (p', q') = along s (ap (λ x. sub 0 0 nil (cons x nil) b) p) (λ x. same-run s x) s' in
+      (p', λ i. uses 0 0 1 0 0 ⊕ q i ⊕ q' i)
+  same-run (called f r e n s) (called f' r' e' n' s') =
+      let (p, q) = same-run f f' in
+      let (p', q') = same-runs r r' in
+      let (p″, q″) = along s (call-same e e' p p') (λ x. same-run s x) s' in
+      (p″, λ i. uses 0 1 0 0 0 ⊕ q i ⊕ q' i ⊕ q″ i)
+  same-run (matched r k s) (matched r' k' s') =
+      let (p, q) = same-run r r' in
+      let (p', q') = along s (match-same k k' p) (λ x. same-run s x) s' in
+      (p', λ i. uses 0 0 0 1 0 ⊕ q i ⊕ q' i)
+
+  pub same-runs : {L : Lang} {ts vs vs' : Terms} (r : Runs L ts vs) (r' : Runs L ts vs') → (vs ≡ vs') × (counts r ≡ counts r')
+  same-runs done done = (refl, refl)
+  same-runs (then r s) (then r' s') =
+      let (p, q) = same-run r r' in
+      let (p', q') = same-runs s s' in
+      (ap₂ cons p p', λ i. q i ⊕ q' i)

@@ -1,0 +1,10 @@
+pub mod Scopes
+pub mod Compose
+pub mod Forms
+pub mod Commute
+pub mod Values
+pub mod Steps
+pub mod Simulation
+pub mod Determinism
+pub mod Promises
+pub mod Worked

@@ -1,0 +1,139 @@
+-- The steps that an image makes: a passing form is given its continuation, and a chain's ending runs once the chain's terms have come to
+-- values. Each step says how many calls, lets and matches it adds. Assumes nothing.
+use Prim.Native.Nat.{ℕ, suc, _+_, _≤_}
+use mathlib.Core.Path.{_≡_, refl, ap, ap₂}
+use native.Mathlib.Omega.{arith}
+use Rattle.language.specs.Term.{Lang, rules, images, Term, Terms, Arms, kvar, fun, call, con, nil, cons, size}
+use Rattle.language.specs.Scope.{Scoped, Scopedᵃ, s-arm}
+use Rattle.language.specs.Sub.{look, sub, subᵗ, subᵃ}
+use Rattle.language.specs.Run.{Value, Values, v-fun, v-con, v-nil, v-cons, first, rev, itself, Took, here, there}
+use Rattle.language.specs.Run.{Run, Runs, taken, bound, called, matched, done, then, Counts, count, counts}
+use Rattle.language.specs.Image.{lam, to, downto, calling, making, passing, carried, carrieds, passingᵃ}
+use Rattle.language.proofs.Forms.{passing-atom}
+use Rattle.meaning.specs.Promises.{Comes}
+use Rattle.meaning.proofs.Scopes.{keep}
+use Rattle.meaning.proofs.Forms.{value-atom, carried-value, carrieds-values, size-carrieds, carried-scoped, passing-scoped, letting, matching}
+use Rattle.meaning.proofs.Commute.{passing-sub}
+use Rattle.meaning.proofs.Values.{rev-values, carrieds-rev, itself-values, carrieds-itself, in-fun, in-arms}
+
+-- so many calls, lets and matches
+abbrev Counted : Counts → ℕ → ℕ → ℕ → Type 0
+Counted c n l m = (c .calls ≡ n) × (c .lets ≡ l) × (c .matches ≡ m)
+
+pub comes : {t w : Term} {n l m : ℕ} (r : Run images t w) → Counted (count r) n l m → Comes t w n l m
+comes r e = record { run = r; in-calls = e .0; in-lets = e .1; in-matches = e .2 }
+
+pub adjust : {t w : Term} {n l m n' l' m' : ℕ} → Comes t w n l m → (n ≡ n') × (l ≡ l') × (m ≡ m') → Comes t w n' l' m'
+adjust r e = comes (r .run) (omega arith)
+
+-- values are taken whole, by no call, let or match
+pub taken-all : {L : Lang} {vs : Terms} → Values vs → Runs L vs vs
+taken-all v-nil = done
+taken-all (v-cons v vs) = then (taken v) (taken-all vs)
+
+taken-free : (L : Lang) {vs : Terms} (h : Values vs) → Counted (counts (taken-all {L = L} h)) 0 0 0
+unfolding taken-all count
+taken-free L v-nil = (refl, refl, refl)
+taken-free L (v-cons v vs) = omega (arith, taken-free L vs)
+
+-- a function is called with a continuation and values
+pub apply : {o a : ℕ} {b k w : Term} {ws : Terms} {n l m : ℕ} → Value k → Values ws → size ws ≡ a
+    → Comes (sub 0 0 (cons k nil) (rev ws (itself o (fun o a b))) b) w n l m → Comes (call (fun o a b) (cons k ws)) w (suc n) l m
+unfolding count
+apply kv wv e r = comes (called (taken v-fun) (then (taken kv) (taken-all wv)) first e (r .run)) (omega (arith, taken-free images wv))
+
+-- a function that wants only a continuation is given it
+pub enter : {b k w : Term} {n l m : ℕ} → Value k → Comes (sub 0 0 (cons k nil) nil b) w n l m → Comes (to (lam b) k) w (suc n) l m
+unfolding size rev itself
+enter kv r = apply {ws = nil} kv v-nil refl r
+
+-- what is closed stays as it is; so does the passing form of a term that names no variable put in for
+pub shut : {t : Term} → Scoped images 0 0 t → (ks xs : Terms) (dk dx : ℕ) → sub dk dx ks xs t ≡ t
+shut h ks xs dk dx = keep ks xs h dk dx (omega arith) (omega arith)
+
+pub stay : {d : ℕ} {t : Term} → Scoped rules 0 d t → (ks xs : Terms) (dk dx : ℕ) → d ≤ dx → sub dk dx ks xs (passing t) ≡ passing t
+stay {d} h ks xs dk dx e = keep ks xs (passing-scoped h 0 d (omega arith)) dk dx (omega arith) e
+
+-- the passing form of a body, with the carried forms of values put in
+pub put-in : {b : Term} {c d : ℕ} {xs acc : Terms} (ks : Terms) → Values xs → Values acc → Scoped rules c d b
+    → sub 0 0 ks (rev (carrieds xs) (carrieds acc)) (passing b) ≡ passing (sub 0 0 nil (rev xs acc) b)
+put-in {xs} {acc} ks xv av hb = rw (← (carrieds-rev xs acc)) (passing-sub ks (rev xs acc) (rev-values xv av) hb 0 0 0 0 refl)
+
+-- a value: its passing form is given the continuation `lam p`, which is given its carried form
+pub on-value : {v p w : Term} {n l m : ℕ} → Value v → Scoped rules 0 0 v → Comes (sub 0 0 (cons (carried v) nil) nil p) w n l m
+    → Comes (to (passing v) (lam p)) w (suc (suc n)) l m
+unfolding sub
+on-value {v} {p} x h r =
+    rw (passing-atom v (value-atom x))
+    (enter v-fun (rw (shut (carried-scoped h 0 0 (omega arith)) (cons (lam p) nil) nil 0 0) (enter (carried-value x) r)))
+
+-- of terms put in last first, before acc: those past ws are acc's; and k_(n-1) down to k_0 are the n terms ws in their order
+look-rev : (ws acc : Terms) (i j : ℕ) (e : Term) → i ≡ size ws + j → look 0 (rev ws acc) i e ≡ look 0 acc j e
+unfolding look rev size
+look-rev nil acc i j e h = ap (λ x. look 0 acc x e) (omega arith)
+look-rev (cons w ws) acc i j e h = look-rev ws (cons w acc) i (suc j) e (omega arith)
+
+downto-sub : (ws acc : Terms) → subᵗ 0 0 (rev ws acc) nil (downto (size ws)) ≡ ws
+unfolding rev size subᵗ downto
+downto-sub nil acc = refl
+downto-sub (cons w ws) acc = ap₂ cons (look-rev ws (cons w acc) (size ws) 0 (kvar (size ws)) (omega arith)) (downto-sub ws (cons w acc))
+
+-- what the endings of a call and of a constructor become
+pub calling-sub : (ws : Terms) (f k : Term) → sub 0 0 (rev ws (cons f (cons k nil))) nil (calling (size ws)) ≡ call f (cons k ws)
+unfolding sub
+calling-sub ws f k =
+    ap₂ call (look-rev ws (cons f (cons k nil)) (size ws) 0 (kvar (size ws)) (omega arith))
+    (ap₂ cons (look-rev ws (cons f (cons k nil)) (suc (size ws)) 1 (kvar (suc (size ws))) (omega arith)) (downto-sub ws (cons f (cons k nil))))
+
+pub making-sub : (t : ℕ) (ws : Terms) (k : Term) → sub 0 0 (rev ws (cons k nil)) nil (making t (size ws)) ≡ to k (con t ws)
+unfolding sub
+making-sub t ws k = ap₂ (λ x y. to x (con t y)) (look-rev ws (cons k nil) (size ws) 0 (kvar (size ws)) (omega arith)) (downto-sub ws (cons k nil))
+
+-- the ending of a constructor: the continuation is given the constructor of the values
+pub end-built : (p : Term) (t : ℕ) (vs : Terms) {w : Term} {i n l m : ℕ} → size vs ≡ i → Values vs
+    → Comes (sub 0 0 (cons (carried (con t vs)) nil) nil p) w n l m
+    → Comes (sub 0 0 (rev (carrieds vs) (cons (lam p) nil)) nil (making t i)) w (suc n) l m
+unfolding carried
+end-built p t vs e vv r = rw (← e, ← (size-carrieds vs), making-sub t (carrieds vs) (lam p)) (enter (v-con (carrieds-values vv)) r)
+
+-- the ending of a call: the function is given the continuation and the values
+pub end-called : {o a i : ℕ} {b k w : Term} (vs : Terms) {n l m : ℕ} → size vs ≡ i → size vs ≡ a → Value k → Values vs → Scoped rules 0 0 (fun o a b)
+    → Comes (to (passing (sub 0 0 nil (rev vs (itself o (fun o a b))) b)) k) w n l m
+    → Comes (sub 0 0 (rev (carrieds vs) (cons (carried (fun o a b)) (cons k nil))) nil (calling i)) w (suc n) l m
+unfolding carried sub
+end-called {o} {a} {b} {k} {w} vs {n} {l} {m} e e' kv vv hf r =
+    let fits : size (carrieds vs) ≡ a = rw (size-carrieds vs) e' in
+    let names : Values (itself o (fun o a b)) = itself-values o v-fun in
+    let inside : Comes (sub 0 0 (cons k nil) (rev (carrieds vs) (itself o (carried (fun o a b)))) (to (passing b) (kvar 0))) w n l m
+    = rw (← (carrieds-itself o (fun o a b)), put-in (cons k nil) vv names (in-fun hf)) r in
+    rw (← e, ← (size-carrieds vs), calling-sub (carrieds vs) (carried (fun o a b)) k) (apply kv (carrieds-values vv) fits inside)
+
+-- the ending of a let: the value goes in for x_0 of the body's passing form
+pub end-bound : {v b k w : Term} {n l m : ℕ} → Value v → Scoped rules 0 1 b → Scoped images 0 0 k
+    → Comes (to (passing (sub 0 0 nil (cons v nil) b)) k) w n l m
+    → Comes (sub 0 0 (cons (carried v) (cons k nil)) nil (letting (passing b))) w n (suc l) m
+unfolding sub carrieds rev count
+end-bound {v} {b} {k} {w} {n} {l} {m} x hb hk r =
+    let inside : Comes (sub 0 0 nil (cons (carried v) nil) (to (passing b) k)) w n l m
+    = rw (put-in {xs = cons v nil} {acc = nil} nil (v-cons x v-nil) v-nil hb, shut hk nil (cons (carried v) nil) 0 0) r in
+    rw (stay hb (cons (carried v) (cons k nil)) nil 0 1 (omega arith))
+    (comes (bound (taken (carried-value x)) (inside .run)) (omega arith))
+
+-- the image takes the arm that the rule takes
+pub took-image : (v k : Term) {t n : ℕ} {ps : Arms} {b : Term} → Took t n ps b → Scopedᵃ rules 0 0 ps
+    → Took t n (subᵃ 0 0 (cons v (cons k nil)) nil (passingᵃ ps)) (to (passing b) k)
+unfolding sub passingᵃ
+took-image v k (here {n'} e f) (s-arm b ps) = rw (stay b (cons v (cons k nil)) nil 0 (0 + n') (omega arith)) (here e f)
+took-image v k (there e y) (s-arm b ps) = there e (took-image v k y ps)
+
+-- the ending of a match: the constructor's arguments go in for the variables of the arm's passing form
+pub end-matched : {t : ℕ} {b k w : Term} (vs : Terms) (ps : Arms) {n l m : ℕ} → Took t (size vs) ps b → Values vs → Scopedᵃ rules 0 0 ps
+    → Scoped images 0 0 k → Comes (to (passing (sub 0 0 nil (rev vs nil) b)) k) w n l m
+    → Comes (sub 0 0 (cons (carried (con t vs)) (cons k nil)) nil (matching (passingᵃ ps))) w n l (suc m)
+unfolding sub carried count
+end-matched {t} {b} {k} {w} vs ps {n} {l} {m} y vv hs hk r =
+    let inside : Comes (sub 0 0 nil (rev (carrieds vs) nil) (to (passing b) k)) w n l m
+    = rw (put-in nil vv v-nil (in-arms y hs), shut hk nil (rev (carrieds vs) nil) 0 0) r in
+    let took : Took t (size (carrieds vs)) (subᵃ 0 0 (cons (con t (carrieds vs)) (cons k nil)) nil (passingᵃ ps)) (to (passing b) k)
+    = rw (size-carrieds vs) (took-image (con t (carrieds vs)) k y hs) in
+    comes (matched (taken (v-con (carrieds-values vv))) took (inside .run)) (omega arith)
