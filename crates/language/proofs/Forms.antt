@@ -1,11 +1,12 @@
--- The passing form of an atom, and of a constructor that is none: document 01's two cases for a constructor, each as an equation.
+-- The passing form of an atom, and of a constructor that is none: document 01's two cases for a constructor, each as an equation. The carried
+-- forms of a list are as many as its terms.
 -- Assumes nothing.
-use Prim.Native.Nat.{ℕ}
-use mathlib.Core.Path.{_≡_, refl, sym}
+use Prim.Native.Nat.{ℕ, suc}
+use mathlib.Core.Path.{_≡_, refl, ap}
 use mathlib.Core.Bool.{true, false, false≢true}
-use Rattle.language.specs.Term.{Term, Terms, var, kvar, fun, call, bind, con, cases, size}
+use Rattle.language.specs.Term.{Term, Terms, var, kvar, fun, call, bind, con, cases, nil, cons, size}
 use Rattle.language.specs.Run.{atom, atoms}
-use Rattle.language.specs.Image.{lam, to, making, passing, carried, chain}
+use Rattle.language.specs.Image.{lam, to, making, passing, carried, carrieds, chain}
 
 -- "Atom: 0201 0401 0900, then its carried form."
 pub passing-atom : (t : Term) → atom t ≡ true → passing t ≡ lam (to (kvar 0) (carried t))
@@ -22,3 +23,9 @@ passing-atom (cases m ps) e = absurd (false≢true e)
 pub passing-build : (t : ℕ) (ps : Terms) → atoms ps ≡ false → passing (con t ps) ≡ lam (chain ps (making t (size ps)))
 unfolding passing
 passing-build t ps e = rw e
+
+-- the carried forms of the arguments are as many
+pub size-carrieds : (ts : Terms) → size (carrieds ts) ≡ size ts
+unfolding size carrieds
+size-carrieds nil = refl
+size-carrieds (cons t ts) = ap suc (size-carrieds ts)

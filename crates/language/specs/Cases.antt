@@ -107,9 +107,10 @@ worked =
     ∷ replies caseA 8 (success 8)
     ∷ []
 
-abbrev pub Each : (Case → Type 0) → List Case → Type 0
+-- P holds of each of them
+abbrev pub Each : {A : Type 0} → (A → Type 0) → List A → Type 0
 Each P [] = Unit {0}
-Each P (c ∷ cs) = P c × Each P cs
+Each P (a ∷ more) = P a × Each P more
 
 -- the one claim
 abbrev pub WorkedRules : Type 0

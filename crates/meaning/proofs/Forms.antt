@@ -32,11 +32,6 @@ mutual
   carrieds-values v-nil = v-nil
   carrieds-values (v-cons v vs) = v-cons (carried-value v) (carrieds-values vs)
 
-pub size-carrieds : (ts : Terms) → size (carrieds ts) ≡ size ts
-unfolding size carrieds
-size-carrieds nil = refl
-size-carrieds (cons t ts) = ap suc (size-carrieds ts)
-
 -- k_i, where it is bound
 pub k-scoped : (i c d : ℕ) → i < c → Scoped images c d (kvar i)
 k-scoped i c d h = s-kvar tt h

@@ -2,8 +2,9 @@
 use mathlib.Core.Path.{_≡_, refl, ap, ap₂}
 use Rattle.language.specs.Term.{Term, Terms, con, cons}
 use Rattle.language.specs.Image.{carried, carrieds}
-use Rattle.trust.proofs.Accepted.{accepted-rule}
-use Rattle.meaning.specs.Promises.{Plain, Plainᵗ, p-con, p-nil, p-cons, PlainIsCarried, RunsAreDetermined, Demand3, Demand3OfWords}
+use Rattle.trust.proofs.Accepted.{accepted-rule, accepted-are-rules}
+use Rattle.sizes.proofs.Promises.{seven-times}
+use Rattle.meaning.specs.Promises.{Plain, Plainᵗ, p-con, p-nil, p-cons, PlainIsCarried, RunsAreDetermined, Demand3, Demand3OfWords, SevenTimesOfWords}
 use Rattle.meaning.proofs.Simulation.{image-comes}
 use Rattle.meaning.proofs.Determinism.{same-run}
 
@@ -30,3 +31,6 @@ demand3 t v h r =
 
 pub demand3-of-words : Demand3OfWords
 demand3-of-words ws t v e r = demand3 t v ((accepted-rule ws t e) .closed) r
+
+pub seven-times-of-words : SevenTimesOfWords
+seven-times-of-words ws t e = rw (accepted-are-rules ws t e .0) (seven-times t)

@@ -9,10 +9,10 @@ use Rattle.language.specs.Sub.{look, sub, subᵗ, subᵃ}
 use Rattle.language.specs.Run.{Value, Values, v-fun, v-con, v-nil, v-cons, first, rev, itself, Took, here, there}
 use Rattle.language.specs.Run.{Run, Runs, taken, bound, called, matched, done, then, Counts, count, counts}
 use Rattle.language.specs.Image.{lam, to, downto, calling, making, passing, carried, carrieds, passingᵃ}
-use Rattle.language.proofs.Forms.{passing-atom}
+use Rattle.language.proofs.Forms.{size-carrieds, passing-atom}
 use Rattle.meaning.specs.Promises.{Comes}
 use Rattle.meaning.proofs.Scopes.{keep}
-use Rattle.meaning.proofs.Forms.{value-atom, carried-value, carrieds-values, size-carrieds, carried-scoped, passing-scoped, letting, matching}
+use Rattle.meaning.proofs.Forms.{value-atom, carried-value, carrieds-values, carried-scoped, passing-scoped, letting, matching}
 use Rattle.meaning.proofs.Commute.{passing-sub}
 use Rattle.meaning.proofs.Values.{rev-values, carrieds-rev, itself-values, carrieds-itself, in-fun, in-arms}
 

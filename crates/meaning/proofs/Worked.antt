@@ -13,7 +13,8 @@ use Rattle.language.specs.Kinds.{headOf}
 use Rattle.language.specs.Read.{Reading, accepted, refused, then, made, second, many, armsOf, opened, term, read}
 use Rattle.language.proofs.Eval.{Ran, eval}
 use Rattle.meaning.specs.Promises.{applications}
-use Rattle.meaning.specs.Worked.{Row, ran, Agrees, Every, WorkedRuns}
+use Rattle.language.specs.Cases.{Each}
+use Rattle.meaning.specs.Worked.{Row, ran, Agrees, WorkedRuns}
 use Rattle.meaning.proofs.Steps.{comes}
 
 -- levels enough for each worked rule's run and its image's
@@ -61,7 +62,7 @@ computed : (x : Row) (g : Reading) → read (x .rule) ≡ g → Computed x g →
 computed x (accepted t) e h = compared x t e (eval rules levels t) (eval images levels (image t)) h
 computed x (refused n p) e h = absurd h
 
-all-computed : (xs : List Row) → Every (λ x. Computed x (read (x .rule))) xs → Every Agrees xs
+all-computed : (xs : List Row) → Each (λ x. Computed x (read (x .rule))) xs → Each Agrees xs
 all-computed [] h = tt
 all-computed (x ∷ xs) h = (computed x (read (x .rule)) refl (h .0), all-computed xs (h .1))
 

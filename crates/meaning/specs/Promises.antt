@@ -1,8 +1,10 @@
 -- What a reader may rely on of an image's run: document 01, "The image" and "How a rule runs"; demand 3.
-use Prim.Native.Nat.{ℕ, _+_, _*_}
+use Prim.Native.Nat.{ℕ, _+_, _*_, _≤_}
 use mathlib.Core.Path.{_≡_}
 use mathlib.Core.List.{List}
+use lib.ListN.{length}
 use Rattle.language.specs.Term.{Lang, rules, images, Term, Terms, con, nil, cons}
+use Rattle.language.specs.Words.{words}
 use Rattle.language.specs.Scope.{Scoped}
 use Rattle.language.specs.Run.{Counts, Run, count}
 use Rattle.language.specs.Image.{image, carried}
@@ -52,3 +54,7 @@ Demand3 = (t v : Term) → Scoped rules 0 0 t → (r : Run rules t v) → Kept t
 -- demand 3 of words: for every sequence of words that is accepted as a rule
 abbrev pub Demand3OfWords : Type 0
 Demand3OfWords = (ws : List ℕ) (t v : Term) → read ws ≡ accepted t → (r : Run rules t v) → Kept t v (count r)
+
+-- "Its length in words, for a rule of w words, is at most 7w."
+abbrev pub SevenTimesOfWords : Type 0
+SevenTimesOfWords = (ws : List ℕ) (t : Term) → read ws ≡ accepted t → length (words images (image t)) ≤ 7 * length ws

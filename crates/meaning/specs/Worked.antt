@@ -7,7 +7,7 @@ use Rattle.language.specs.Words.{words}
 use Rattle.language.specs.Run.{Counts, uses, Run, count}
 use Rattle.language.specs.Image.{image, carried}
 use Rattle.language.specs.Read.{read, accepted}
-use Rattle.language.specs.Cases.{caseA, caseB, caseC, caseD, caseE, caseF, caseG}
+use Rattle.language.specs.Cases.{Each, caseA, caseB, caseC, caseD, caseE, caseF, caseG}
 use Rattle.meaning.specs.Promises.{applications, Comes}
 
 -- a rule's words, the words of its value, how often its run uses each rule, and document 01's "Applications"
@@ -44,10 +44,6 @@ pub record Agrees (x : Row) : Type 0 where
   pub image-comes : Comes (image term) (carried result) (x .made) (x .used .lets) (x .used .matches)
   pub sum-is : x .made ≡ applications (x .used)
 
-abbrev pub Every : {A : Type 0} → (A → Type 0) → List A → Type 0
-Every P [] = Unit {0}
-Every P (x ∷ xs) = P x × Every P xs
-
 -- the one claim
 abbrev pub WorkedRuns : Type 0
-WorkedRuns = Every Agrees ran
+WorkedRuns = Each Agrees ran

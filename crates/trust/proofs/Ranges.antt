@@ -13,6 +13,7 @@ use Rattle.language.specs.Words.{head, added, words, wordsᵗ, wordsᵃ}
 use Rattle.language.specs.Limits.{Ranged, Rangedᵗ, Rangedᵃ, r-var, r-kvar, r-fun, r-call, r-bind, r-con, r-cases, r-nil, r-cons, r-none, r-arm}
 use Rattle.language.specs.Run.{atoms}
 use Rattle.language.specs.Image.{lam, to, downto, calling, making, passing, carried, carrieds, chain, passingᵃ, image}
+use Rattle.language.proofs.Forms.{size-carrieds}
 use Rattle.trust.specs.Promises.{wordEnd, Fit, WordsFit, ImagesInRange}
 
 fit-nil : Fit []
@@ -91,11 +92,6 @@ making-ranged t n h l = to-ranged (k-ranged n (omega arith)) (r-con {ps = downto
 cond-ranged : (b : Bool) {x y : Term} → Ranged images x → Ranged images y → Ranged images (cond b x y)
 cond-ranged true h k = h
 cond-ranged false h k = k
-
-size-carrieds : (ts : Terms) → size (carrieds ts) ≡ size ts
-unfolding carried size
-size-carrieds nil = refl
-size-carrieds (cons t ts) = ap suc (size-carrieds ts)
 
 size-passingᵃ : (ps : Arms) → sizeᵃ (passingᵃ ps) ≡ sizeᵃ ps
 unfolding passing sizeᵃ
