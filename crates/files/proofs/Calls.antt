@@ -7,25 +7,14 @@ use mathlib.Core.List.{List, [], _∷_, _++_}
 use native.Mathlib.Omega.{arith}
 use lib.Dec.{ltb, eqb}
 use lib.ListN.{length, getD, drop, length-append}
-use lib.Seq.{sets, sets-eq}
+use lib.Seq.{sets}
 use borrow.Author.Tests.{lt-ltb, le-ltb, eq-eqb, ne-eqb, not-true, not-false, ltb-false}
 use Rattle.language.specs.Calls.{told, filled}
 use Rattle.language.specs.declared.Answer.{Answer}
 use Rattle.language.specs.declared.Answer.the-variants.{Count, Refusal}
+use Rattle.language.proofs.Stores.{filled-short, filled-whole}
 use Rattle.files.specs.Files.{most, version, headerBytes, header, bytesOf, packed, wordAt, wordsAt, marked, packing, unpacking}
 use Rattle.files.specs.declared.Form.{Form}
-
--- what is stored from the first place on stands at the front, and the rest is unchanged
-at-front : (l ws : List ℕ) → length ws ≤ length l → sets l 0 ws ≡ ws ++ drop (length ws) l
-at-front l ws h = let e : 0 + length ws ≡ length ws = omega arith in sets-eq ws l 0 (omega arith) ∙ ap (λ (n : ℕ). ws ++ drop n l) e
-
-filled-short : (ws out : List ℕ) → length out < length ws → told (Refusal 9) out ≡ filled ws out
-unfolding filled
-filled-short ws out h = simp (lt-ltb _ _ h)
-
-filled-whole : (ws out : List ℕ) {o : List ℕ} {n : ℕ} → length ws ≤ length out → n ≡ length ws → o ≡ sets out 0 ws → told (Count n) o ≡ filled ws out
-unfolding filled
-filled-whole ws out h e k = simp (le-ltb _ _ h, e, k, at-front out ws h)
 
 pub wordsAt-length : (bs : List ℕ) (i n : ℕ) → length (wordsAt bs i n) ≡ n
 unfolding wordsAt

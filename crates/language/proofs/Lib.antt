@@ -1,5 +1,6 @@
 pub mod Heads
 pub mod Forms
 pub mod Places
+pub mod Stores
 pub mod Eval
 pub mod Cases

@@ -1,0 +1,30 @@
+-- Words stored in a run: one run after another is one run, a run from the first place on stands at the front, and so the ways out of a call that
+-- fills the front of its output.
+-- Assumes nothing.
+use Prim.Native.Nat.{ℕ, suc, _+_, _<_, _≤_}
+use mathlib.Core.Path.{_≡_, refl, ap, _∙_}
+use mathlib.Core.List.{List, [], _∷_, _++_}
+use native.Mathlib.Omega.{arith}
+use lib.ListN.{length, drop, set}
+use lib.Seq.{sets, sets-eq}
+use borrow.Author.Tests.{lt-ltb, le-ltb}
+use Rattle.language.specs.Calls.{told, filled}
+use Rattle.language.specs.declared.Answer.{Answer}
+use Rattle.language.specs.declared.Answer.the-variants.{Count, Refusal}
+
+pub sets-append : (l : List ℕ) (i : ℕ) (xs ys : List ℕ) → sets l i (xs ++ ys) ≡ sets (sets l i xs) (i + length xs) ys
+sets-append l i [] ys = let e : i ≡ i + 0 = omega arith in ap (λ (n : ℕ). sets l n ys) e
+sets-append l i (x ∷ xs) ys =
+    let e : suc i + length xs ≡ i + suc (length xs) = omega arith in
+    sets-append (set l i x) (suc i) xs ys ∙ ap (λ (n : ℕ). sets (sets (set l i x) (suc i) xs) n ys) e
+
+pub at-front : (l ws : List ℕ) → length ws ≤ length l → sets l 0 ws ≡ ws ++ drop (length ws) l
+at-front l ws h = let e : 0 + length ws ≡ length ws = omega arith in sets-eq ws l 0 (omega arith) ∙ ap (λ (n : ℕ). ws ++ drop n l) e
+
+pub filled-short : (ws out : List ℕ) → length out < length ws → told (Refusal 9) out ≡ filled ws out
+unfolding filled
+filled-short ws out h = simp (lt-ltb _ _ h)
+
+pub filled-whole : (ws out : List ℕ) {o : List ℕ} {n : ℕ} → length ws ≤ length out → n ≡ length ws → o ≡ sets out 0 ws → told (Count n) o ≡ filled ws out
+unfolding filled
+filled-whole ws out h e k = simp (le-ltb _ _ h, e, k, at-front out ws h)

@@ -1,0 +1,44 @@
+-- What the bench program prints: document 01, "Worked rules", its last paragraph. Bytes are those of ASCII.
+use Prim.Native.Nat.{ℕ, suc, _+_, _/_, _%_}
+use mathlib.Core.Bool.{cond, _||_}
+use mathlib.Core.List.{List, [], _∷_, _++_}
+use lib.Dec.{ltb, eqb}
+use lib.ListN.{length}
+use Rattle.io.specs.Digits.{digits}
+use Rattle.language.specs.Calls.{Reply, success, refusal}
+
+abbrev pub space : ℕ
+space = 32
+
+abbrev pub newline : ℕ
+newline = 10
+
+-- "in upper case": 0 to 9, then A to F
+abbrev pub hexDigit : ℕ → ℕ
+hexDigit d = cond (ltb d 10) (48 + d) (55 + d)
+
+-- "eight to a line, the last line perhaps shorter": what stands after the word i of n
+abbrev pub endOf : ℕ → ℕ → ℕ
+endOf n i = cond (eqb (i + 1) n || eqb (i % 8) 7) newline space
+
+-- a word's four digits, and what stands after them
+abbrev pub wordText : ℕ → ℕ → List ℕ
+wordText w e = hexDigit (w / 4096) ∷ hexDigit (w / 256 % 16) ∷ hexDigit (w / 16 % 16) ∷ hexDigit (w % 16) ∷ e ∷ []
+
+-- the words from the word i of n on
+unfoldable pub listed : ℕ → ℕ → List ℕ → List ℕ
+listed n i [] = []
+listed n i (w ∷ ws) = wordText w (endOf n i) ++ listed n (i + 1) ws
+
+-- how many decimal digits a number below 100,000 has; no reply gives a larger one
+abbrev pub placesOf : ℕ → ℕ
+placesOf n = cond (ltb n 10) 1 (cond (ltb n 100) 2 (cond (ltb n 1000) 3 (cond (ltb n 10000) 4 5)))
+
+-- two letters, a number and the end of the line
+unfoldable pub lineText : ℕ → ℕ → ℕ → List ℕ
+lineText a b n = a ∷ b ∷ space ∷ (digits 10 (placesOf n) n ++ (newline ∷ []))
+
+-- "prints `ok` and the image's count, then the image's words"; "A refusal prints `no` and the number."
+unfoldable pub replyText : Reply ℕ → List ℕ → List ℕ
+replyText (success n) ws = lineText 111 107 n ++ listed (length ws) 0 ws
+replyText (refusal e) ws = lineText 110 111 e
