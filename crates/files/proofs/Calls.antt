@@ -9,7 +9,7 @@ use lib.Dec.{ltb, eqb}
 use lib.ListN.{length, getD, drop, length-append}
 use lib.Seq.{sets}
 use borrow.Author.Tests.{lt-ltb, le-ltb, eq-eqb, ne-eqb, not-true, not-false, ltb-false}
-use Rattle.language.specs.Calls.{told, filled}
+use Rattle.language.specs.Calls.{replyOf, told, filled}
 use Rattle.language.specs.declared.Answer.{Answer}
 use Rattle.language.specs.declared.Answer.the-variants.{Count, Refusal}
 use Rattle.language.proofs.Stores.{filled-short, filled-whole}
@@ -38,28 +38,28 @@ sets-packed f l ws = refl
 -- packing
 module _ (f : Form) (ws out : List ℕ) where
   pub pack-none : length ws ≡ 0 → told (Refusal 1) out ≡ packing f ws out
-  unfolding packing
+  unfolding packing replyOf
   pack-none e = simp (eq-eqb _ _ e)
 
   module _ {m : ℕ} (n : length ws ≡ 0 → ⊥) (e : m ≡ most f) where
     pub pack-many : m < length ws → told (Refusal 2) out ≡ packing f ws out
-    unfolding packing
+    unfolding packing replyOf
     pack-many h = simp (ne-eqb _ _ n, ← e, lt-ltb _ _ h)
 
     pub pack-short : length ws ≤ m → length out < headerBytes + 2 * length ws → told (Refusal 9) out ≡ packing f ws out
-    unfolding packing
+    unfolding packing replyOf
     pack-short h k = simp (ne-eqb _ _ n, ← e, le-ltb _ _ h) (filled-short (packed f ws) out (rw packed-length k))
 
     pub pack-whole : {o o' : List ℕ} → length ws ≤ m → headerBytes + 2 * length ws ≤ length out → o' ≡ sets out 0 (header f (length ws))
         → o ≡ sets o' headerBytes (bytesOf ws) → told (Count (headerBytes + 2 * length ws)) o ≡ packing f ws out
-    unfolding packing
+    unfolding packing replyOf
     pack-whole h k x y = simp (ne-eqb _ _ n, ← e, le-ltb _ _ h)
         (filled-whole (packed f ws) out (rw packed-length k) (rw packed-length) (y ∙ ap (λ l. sets l headerBytes (bytesOf ws)) x ∙ sets-packed f out ws))
 
 -- unpacking
 module _ (f : Form) (bs out : List ℕ) where
   pub unpack-mark : {r : Bool} → r ≡ marked f bs → not r ≡ true → told (Refusal 10) out ≡ unpacking f bs out
-  unfolding unpacking
+  unfolding unpacking replyOf
   unpack-mark e h = let k : marked f bs ≡ false = sym e ∙ not-true _ h in simp k
 
   module _ {r : Bool} (e : r ≡ marked f bs) (h : not r ≡ false) where
@@ -72,26 +72,26 @@ module _ (f : Form) (bs out : List ℕ) where
         omega (arith, ltb-false (length bs) headerBytes t)
 
     pub unpack-version : {v : ℕ} → v ≡ wordAt bs 3 → (v ≡ version → ⊥) → told (Refusal 11) out ≡ unpacking f bs out
-    unfolding unpacking
+    unfolding unpacking replyOf
     unpack-version q n = simp (is-marked, ← q, ne-eqb _ _ n)
 
     module _ {v c : ℕ} (q : v ≡ wordAt bs 3) (k : v ≡ version) (p : c ≡ wordAt bs 5) where
       pub unpack-length : (length bs ≡ headerBytes + 2 * c → ⊥) → told (Refusal 12) out ≡ unpacking f bs out
-      unfolding unpacking
+      unfolding unpacking replyOf
       unpack-length n = simp (is-marked, ← q, eq-eqb _ _ k, ← p, ne-eqb _ _ n)
 
       module _ (l : length bs ≡ headerBytes + 2 * c) where
         pub unpack-none : c ≡ 0 → told (Refusal 1) out ≡ unpacking f bs out
-        unfolding unpacking
+        unfolding unpacking replyOf
         unpack-none z = simp (is-marked, ← q, eq-eqb _ _ k, ← p, eq-eqb _ _ l, eq-eqb _ _ z)
 
         module _ {m : ℕ} (z : c ≡ 0 → ⊥) (w : m ≡ most f) where
           pub unpack-many : m < c → told (Refusal 2) out ≡ unpacking f bs out
-          unfolding unpacking
+          unfolding unpacking replyOf
           unpack-many g = simp (is-marked, ← q, eq-eqb _ _ k, ← p, eq-eqb _ _ l, ne-eqb _ _ z, ← w, lt-ltb _ _ g)
 
           unpack-fills : c ≤ m → unpacking f bs out ≡ filled (wordsAt bs headerBytes c) out
-          unfolding unpacking
+          unfolding unpacking replyOf
           unpack-fills g = simp (is-marked, ← q, eq-eqb _ _ k, ← p, eq-eqb _ _ l, ne-eqb _ _ z, ← w, le-ltb _ _ g)
 
           pub unpack-short : c ≤ m → length out < c → told (Refusal 9) out ≡ unpacking f bs out

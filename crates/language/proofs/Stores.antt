@@ -8,7 +8,7 @@ use native.Mathlib.Omega.{arith}
 use lib.ListN.{length, drop, set}
 use lib.Seq.{sets, sets-eq}
 use borrow.Author.Tests.{lt-ltb, le-ltb}
-use Rattle.language.specs.Calls.{told, filled}
+use Rattle.language.specs.Calls.{replyOf, told, filled}
 use Rattle.language.specs.declared.Answer.{Answer}
 use Rattle.language.specs.declared.Answer.the-variants.{Count, Refusal}
 
@@ -18,13 +18,18 @@ sets-append l i (x ∷ xs) ys =
     let e : suc i + length xs ≡ i + suc (length xs) = omega arith in
     sets-append (set l i x) (suc i) xs ys ∙ ap (λ (n : ℕ). sets (sets (set l i x) (suc i) xs) n ys) e
 
+-- one word more, behind a run
+pub store-last : (l : List ℕ) (at : ℕ) (xs : List ℕ) (v : ℕ) {o : List ℕ} {i : ℕ} → o ≡ sets l at xs → i ≡ at + length xs
+    → set o i v ≡ sets l at (xs ++ (v ∷ []))
+store-last l at xs v e k = rw (e, k, sets-append l at xs (v ∷ []))
+
 pub at-front : (l ws : List ℕ) → length ws ≤ length l → sets l 0 ws ≡ ws ++ drop (length ws) l
 at-front l ws h = let e : 0 + length ws ≡ length ws = omega arith in sets-eq ws l 0 (omega arith) ∙ ap (λ (n : ℕ). ws ++ drop n l) e
 
 pub filled-short : (ws out : List ℕ) → length out < length ws → told (Refusal 9) out ≡ filled ws out
-unfolding filled
+unfolding filled replyOf
 filled-short ws out h = simp (lt-ltb _ _ h)
 
 pub filled-whole : (ws out : List ℕ) {o : List ℕ} {n : ℕ} → length ws ≤ length out → n ≡ length ws → o ≡ sets out 0 ws → told (Count n) o ≡ filled ws out
-unfolding filled
+unfolding filled replyOf
 filled-whole ws out h e k = simp (le-ltb _ _ h, e, k, at-front out ws h)

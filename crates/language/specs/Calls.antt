@@ -22,7 +22,7 @@ pub record Outcome (A : Type 0) : Type 0 where
   pub output : List ℕ
 
 -- what the code's answer means, and what it means with the output that the call left
-abbrev pub replyOf : Answer → Reply ℕ
+unfoldable pub replyOf : Answer → Reply ℕ
 replyOf (Count n) = success n
 replyOf (Refusal e) = refusal e
 

@@ -139,3 +139,14 @@ fn show_image(out: &mut [u8], n: usize, words: &[u16]) -> Answer
     put_words(out, line, words);
     Answer::Count(size)
 }
+
+// The bench program's whole answer, at the front of the output: a line with the reply, and on success the image's words.
+pub fn show(out: &mut [u8], answer: Answer, words: &[u16]) -> Answer
+    requires { ⌜ length (now words) ≤ 65536 ⌝ }
+    ensures { λ r. ⌜ told r (now (out .exit)) ≡ filled (replyText (replyOf answer) (now (words .entry))) (now (out .entry)) ⌝ }
+{
+    match answer {
+        Answer::Refusal(e) => show_refusal(out, e),
+        Answer::Count(n) => show_image(out, n, words),
+    }
+}

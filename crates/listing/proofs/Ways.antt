@@ -1,0 +1,171 @@
+-- The ways out of the functions that make text, in the words of the code: one law for each.
+-- Assumes nothing.
+use Prim.Native.Nat.{ℕ, zero, suc, _+_, _-_, _*_, _/_, _%_, _<_, _≤_}
+use mathlib.Core.Path.{_≡_, refl, sym, ap, _∙_, subst}
+use mathlib.Core.Bool.{true, false}
+use mathlib.Core.List.{List, [], _∷_, _++_}
+use native.Mathlib.Omega.{arith}
+use native.Mathlib.Numerals.{add-one, towards-suc}
+use lib.Dec.{ltb, eqb}
+use lib.ListN.{length, getD, drop, set, length-append, drop-of-length-le}
+use lib.Seq.{sets, drop-cons}
+use borrow.Author.Tests.{lt-ltb, le-ltb, eq-eqb, ne-eqb}
+use Rattle.io.specs.Digits.{digits}
+use Rattle.language.specs.Calls.{Outcome, replyOf, told, filled}
+use Rattle.language.specs.declared.Answer.{Answer}
+use Rattle.language.specs.declared.Answer.the-variants.{Count, Refusal}
+use Rattle.language.proofs.Stores.{sets-append, store-last, filled-short, filled-whole}
+use Rattle.listing.specs.Text.{space, newline, hexDigit, endOf, wordText, listed, placesOf, lineText, replyText}
+
+-- a digit
+pub below-ten : (d : ℕ) → d < 10 → 48 + d ≡ hexDigit d
+below-ten d h = simp (lt-ltb d 10 h)
+
+pub from-ten : (d : ℕ) → 10 ≤ d → 55 + d ≡ hexDigit d
+from-ten d h = simp (le-ltb d 10 h)
+
+-- what stands after a word
+pub last-word : (n i : ℕ) → i + 1 ≡ n → newline ≡ endOf n i
+last-word n i e = simp (eq-eqb (i + 1) n e)
+
+pub line-full : (n i : ℕ) → (i + 1 ≡ n → ⊥) → i % 8 ≡ 7 → newline ≡ endOf n i
+line-full n i k e = simp (ne-eqb (i + 1) n k, eq-eqb (i % 8) 7 e)
+
+pub within-line : (n i : ℕ) → (i + 1 ≡ n → ⊥) → (i % 8 ≡ 7 → ⊥) → space ≡ endOf n i
+within-line n i k e = simp (ne-eqb (i + 1) n k, ne-eqb (i % 8) 7 e)
+
+-- a word's text
+pub word-stored : (l : List ℕ) (at w e : ℕ) {a b c d : ℕ} → a ≡ hexDigit (w / 4096) → b ≡ hexDigit (w / 256 % 16) → c ≡ hexDigit (w / 16 % 16)
+    → d ≡ hexDigit (w % 16) → set (set (set (set (set l at a) (at + 1) b) (at + 2) c) (at + 3) d) (at + 4) e ≡ sets l at (wordText w e)
+word-stored l at w e p q r s = rw (p, q, r, s) (simp towards-suc)
+
+-- the loop over words: what is still to be stored, stored from where the loop is, gives the whole
+pub next-word : (o goal ws : List ℕ) (at n i : ℕ) {o' : List ℕ} {e : ℕ} → o' ≡ sets o (at + 5 * i) (wordText (getD ws i 0) e) → e ≡ endOf n i
+    → sets o (at + 5 * i) (listed n i (drop i ws)) ≡ goal → i < length ws → sets o' (at + 5 * (i + 1)) (listed n (i + 1) (drop (i + 1) ws)) ≡ goal
+unfolding listed
+next-word o goal ws at n i {o'} k e g h =
+    let w : ℕ = getD ws i 0 in
+    let first : sets o (at + 5 * i) (wordText w (endOf n i) ++ listed n (i + 1) (drop (suc i) ws)) ≡ goal
+    = subst (λ (x : List ℕ). sets o (at + 5 * i) (listed n i x) ≡ goal) (drop-cons ws i 0 h) g in
+    let two : sets (sets o (at + 5 * i) (wordText w (endOf n i))) (at + 5 * i + 5) (listed n (i + 1) (drop (suc i) ws)) ≡ goal
+    = sym (sets-append o (at + 5 * i) (wordText w (endOf n i)) (listed n (i + 1) (drop (suc i) ws))) ∙ first in
+    let z : at + 5 * i + 5 ≡ at + 5 * (i + 1) = omega arith in
+    let three : sets (sets o (at + 5 * i) (wordText w (endOf n i))) (at + 5 * (i + 1)) (listed n (i + 1) (drop (suc i) ws)) ≡ goal
+    = subst (λ (x : ℕ). sets (sets o (at + 5 * i) (wordText w (endOf n i))) x (listed n (i + 1) (drop (suc i) ws)) ≡ goal) z two in
+    rw (k, e)
+    (subst (λ (x : ℕ). sets (sets o (at + 5 * i) (wordText w (endOf n i))) (at + 5 * (i + 1)) (listed n (i + 1) (drop x ws)) ≡ goal) (sym (add-one i)) three)
+
+pub words-end : (o goal ws : List ℕ) (at n i : ℕ) → n ≡ length ws → n ≤ i → sets o (at + 5 * i) (listed n i (drop i ws)) ≡ goal → o ≡ goal
+unfolding listed
+words-end o goal ws at n i e h g =
+    let l : length ws ≤ i = omega arith in
+    subst (λ (x : List ℕ). sets o (at + 5 * i) (listed n i x) ≡ goal) (drop-of-length-le ws l) g
+
+-- a number's digits
+pub one-digit : (n : ℕ) → n < 10 → 1 ≡ placesOf n
+one-digit n h = simp (lt-ltb n 10 h)
+
+pub two-digits : (n : ℕ) → 10 ≤ n → n < 100 → 2 ≡ placesOf n
+two-digits n a h = simp (le-ltb n 10 a, lt-ltb n 100 h)
+
+pub three-digits : (n : ℕ) → 100 ≤ n → n < 1000 → 3 ≡ placesOf n
+three-digits n a h = simp (le-ltb n 10 (omega arith), le-ltb n 100 a, lt-ltb n 1000 h)
+
+pub four-digits : (n : ℕ) → 1000 ≤ n → n < 10000 → 4 ≡ placesOf n
+four-digits n a h = simp (le-ltb n 10 (omega arith), le-ltb n 100 (omega arith), le-ltb n 1000 a, lt-ltb n 10000 h)
+
+pub five-digits : (n : ℕ) → 10000 ≤ n → 5 ≡ placesOf n
+five-digits n a = simp (le-ltb n 10 (omega arith), le-ltb n 100 (omega arith), le-ltb n 1000 (omega arith), le-ltb n 10000 a)
+
+digits-length : (k n : ℕ) → length (digits 10 k n) ≡ k
+digits-length zero n = refl
+digits-length (suc k) n = simp length-append (omega (arith, digits-length k (n / 10)))
+
+pub no-digits : (l : List ℕ) (at k n : ℕ) → k ≡ 0 → l ≡ sets l at (digits 10 k n)
+no-digits l at k n e = rw e
+
+pub digit-stored : (l : List ℕ) (at k n : ℕ) {o : List ℕ} → (k ≡ 0 → ⊥) → o ≡ sets l at (digits 10 (k - 1) (n / 10))
+    → set o (at + k - 1) (48 + n % 10) ≡ sets l at (digits 10 k n)
+digit-stored l at zero n z e = absurd (z refl)
+digit-stored l at (suc k) n {o} z e =
+    let d : List ℕ = digits 10 k (n / 10) in
+    let p : at + suc k - 1 ≡ at + length d = omega (arith, digits-length k (n / 10)) in
+    let q : suc k - 1 ≡ k = omega arith in
+    let f : o ≡ sets l at d = subst (λ (x : ℕ). o ≡ sets l at (digits 10 x (n / 10))) q e in
+    store-last l at d (48 + n % 10) f p ∙ simp (lt-ltb (n % 10) 10 (omega arith))
+
+-- a line
+pub line-stored : (l : List ℕ) (a b n k : ℕ) {o : List ℕ} → k ≡ placesOf n → o ≡ sets (set (set (set l 0 a) 1 b) 2 space) 3 (digits 10 k n)
+    → set o (k + 3) newline ≡ sets l 0 (lineText a b n)
+unfolding lineText
+line-stored l a b n k {o} e f =
+    let p : k + 3 ≡ 3 + length (digits 10 k n) = omega (arith, digits-length k n) in
+    store-last (set (set (set l 0 a) 1 b) 2 space) 3 (digits 10 k n) newline f p
+    ∙ ap (λ (x : ℕ). sets (set (set (set l 0 a) 1 b) 2 space) 3 (digits 10 x n ++ (newline ∷ []))) e
+
+line-length : (a b n : ℕ) → length (lineText a b n) ≡ placesOf n + 4
+unfolding lineText
+line-length a b n = simp length-append (omega (arith, digits-length (placesOf n) n))
+
+listed-length : (n i : ℕ) (ws : List ℕ) → length (listed n i ws) ≡ 5 * length ws
+unfolding listed
+listed-length n i [] = refl
+listed-length n i (w ∷ ws) = omega (arith, listed-length n (i + 1) ws)
+
+-- the reply of a refusal
+module _ (a b n : ℕ) (out : List ℕ) {k : ℕ} (e : k ≡ placesOf n) where
+  pub line-short : length out < k + 4 → told (Refusal 9) out ≡ filled (lineText a b n) out
+  line-short h = filled-short (lineText a b n) out (omega (arith, line-length a b n))
+
+  pub line-whole : {o : List ℕ} → k + 4 ≤ length out → o ≡ sets out 0 (lineText a b n) → told (Count (k + 4)) o ≡ filled (lineText a b n) out
+  line-whole h f = filled-whole (lineText a b n) out (omega (arith, line-length a b n)) (omega (arith, line-length a b n)) f
+
+-- the reply with an image's words
+module _ (a b n : ℕ) (ws out : List ℕ) {k : ℕ} (e : k ≡ placesOf n) where
+  text-length : length (lineText a b n ++ listed (length ws) 0 ws) ≡ k + 4 + 5 * length ws
+  text-length = simp length-append (omega (arith, line-length a b n, listed-length (length ws) 0 ws))
+
+  pub text-short : length out < k + 4 + 5 * length ws → told (Refusal 9) out ≡ filled (lineText a b n ++ listed (length ws) 0 ws) out
+  text-short h = filled-short (lineText a b n ++ listed (length ws) 0 ws) out (omega (arith, text-length))
+
+  pub text-whole : {o o' : List ℕ} → k + 4 + 5 * length ws ≤ length out → o' ≡ sets out 0 (lineText a b n) → o ≡ sets o' (k + 4) (listed (length ws) 0 ws)
+      → told (Count (k + 4 + 5 * length ws)) o ≡ filled (lineText a b n ++ listed (length ws) 0 ws) out
+  text-whole {o} {o'} h f g =
+      let p : k + 4 ≡ 0 + length (lineText a b n) = omega (arith, line-length a b n) in
+      let q : o ≡ sets out 0 (lineText a b n ++ listed (length ws) 0 ws)
+      = g ∙ ap (λ (x : ℕ). sets o' x (listed (length ws) 0 ws)) p ∙ ap (λ (x : List ℕ). sets x (0 + length (lineText a b n)) (listed (length ws) 0 ws)) f
+      ∙ sym (sets-append out 0 (lineText a b n) (listed (length ws) 0 ws)) in
+      filled-whole (lineText a b n ++ listed (length ws) 0 ws) out (omega (arith, text-length)) (sym text-length) q
+
+-- the whole answer, by the reply
+pub refusal-shown : {a : Answer} {e : ℕ} {x : Outcome ℕ} (ws out : List ℕ) → x ≡ filled (lineText 110 111 e) out → a ≡ Refusal e
+    → x ≡ filled (replyText (replyOf a) ws) out
+unfolding replyText replyOf
+refusal-shown ws out k h = rw h k
+
+pub image-shown : {a : Answer} {n : ℕ} {x : Outcome ℕ} (ws out : List ℕ) → x ≡ filled (lineText 111 107 n ++ listed (length ws) 0 ws) out → a ≡ Count n
+    → x ≡ filled (replyText (replyOf a) ws) out
+unfolding replyText replyOf
+image-shown ws out k h = rw h k
+
+pub ruleset ways = (
+  below-ten,
+  from-ten,
+  last-word,
+  line-full,
+  within-line,
+  word-stored,
+  words-end,
+  one-digit,
+  two-digits,
+  three-digits,
+  four-digits,
+  five-digits,
+  no-digits,
+  digit-stored,
+  line-stored,
+  line-short,
+  line-whole,
+  text-short,
+  text-whole,
+)
