@@ -91,14 +91,14 @@ pub fn pack(out: &mut [u8], form: Form, words: &[u16]) -> Answer
 {
     let count = words.len();
     if count == 0 {
-        return Answer::Refusal(1);
+        return Answer::Refusal(language::NO_WORDS);
     }
     if most_words(form) < count {
-        return Answer::Refusal(2);
+        return Answer::Refusal(language::TOO_MANY_WORDS);
     }
     let size = HEADER + 2 * count;
     if out.len() < size {
-        return Answer::Refusal(9);
+        return Answer::Refusal(language::NO_ROOM);
     }
     put_header(out, form, count as u16);
     put_words(out, words);
@@ -152,23 +152,23 @@ pub fn unpack(out: &mut [u16], form: Form, bytes: &[u8]) -> Answer
     ensures { λ r. ⌜ told r (now (out .exit)) ≡ unpacking form (now (bytes .entry)) (now (out .entry)) ⌝ }
 {
     if !has_mark(bytes, form) {
-        return Answer::Refusal(10);
+        return Answer::Refusal(language::WRONG_MARK);
     }
     if word_at(bytes, VERSION_AT) != VERSION {
-        return Answer::Refusal(11);
+        return Answer::Refusal(language::WRONG_VERSION);
     }
     let count = word_at(bytes, COUNT_AT) as usize;
     if bytes.len() != HEADER + 2 * count {
-        return Answer::Refusal(12);
+        return Answer::Refusal(language::WRONG_LENGTH);
     }
     if count == 0 {
-        return Answer::Refusal(1);
+        return Answer::Refusal(language::NO_WORDS);
     }
     if most_words(form) < count {
-        return Answer::Refusal(2);
+        return Answer::Refusal(language::TOO_MANY_WORDS);
     }
     if out.len() < count {
-        return Answer::Refusal(9);
+        return Answer::Refusal(language::NO_ROOM);
     }
     take_words(out, bytes, count);
     Answer::Count(count)

@@ -16,6 +16,31 @@ pub const MOST_WORDS: usize = 4096;
 
 pub const MOST_IMAGE_WORDS: usize = 28672;
 
+// The numbers of the refusals.
+pub const NO_WORDS: u8 = 1;
+
+pub const TOO_MANY_WORDS: u8 = 2;
+
+pub const NONE_LEFT: u8 = 3;
+
+pub const WRONG_KIND: u8 = 4;
+
+pub const OUT_OF_RANGE: u8 = 5;
+
+pub const TOO_DEEP: u8 = 6;
+
+pub const UNBOUND: u8 = 7;
+
+pub const LEFT_OVER: u8 = 8;
+
+pub const NO_ROOM: u8 = 9;
+
+pub const WRONG_MARK: u8 = 10;
+
+pub const WRONG_VERSION: u8 = 11;
+
+pub const WRONG_LENGTH: u8 = 12;
+
 // Where a head may stand in a rule.
 const NOWHERE: u8 = 0;
 
@@ -152,13 +177,13 @@ pub fn look(q: u8, w: u16) -> Head
     let row = row_of(w);
     let low = w % 256;
     if row.stands != q {
-        return Head::Refused(4);
+        return Head::Refused(WRONG_KIND);
     }
     if low < row.low {
-        return Head::Refused(5);
+        return Head::Refused(OUT_OF_RANGE);
     }
     if row.high < low {
-        return Head::Refused(5);
+        return Head::Refused(OUT_OF_RANGE);
     }
     Head::Opens(row)
 }

@@ -21,9 +21,6 @@ const WORDS_TO_A_LINE: usize = 8;
 // A line's bytes besides its number: two letters, a space and the end of the line.
 const LINE_BYTES: usize = 4;
 
-// No reply is refused for want of room but by this number.
-const NO_ROOM: u8 = 9;
-
 fn hex_digit(d: u16) -> u8
     requires { ⌜ d < 16 ⌝ }
     ensures { λ r. ⌜ r ≡ hexDigit d ⌝ }
@@ -119,7 +116,7 @@ fn show_refusal(out: &mut [u8], e: u8) -> Answer
     let k = places(e as usize);
     let size = k + LINE_BYTES;
     if out.len() < size {
-        return Answer::Refusal(NO_ROOM);
+        return Answer::Refusal(language::NO_ROOM);
     }
     put_line(out, b'n', b'o', e as usize, k);
     Answer::Count(size)
@@ -133,7 +130,7 @@ fn show_image(out: &mut [u8], n: usize, words: &[u16]) -> Answer
     let line = k + LINE_BYTES;
     let size = line + WORD_BYTES * words.len();
     if out.len() < size {
-        return Answer::Refusal(NO_ROOM);
+        return Answer::Refusal(language::NO_ROOM);
     }
     put_line(out, b'o', b'k', n, k);
     put_words(out, line, words);
