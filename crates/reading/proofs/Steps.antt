@@ -1,0 +1,110 @@
+-- What a step says of the reading that it answers for: a fault of a part is the whole's, a part that was read is followed by what stands after
+-- it, and a larger thing is as many words longer as its form adds. Nothing here speaks of code.
+-- Assumes nothing.
+use Prim.Native.Nat.{ℕ, zero, suc, _+_, _-_, _*_, _≤_}
+use mathlib.Core.Path.{_≡_, refl, sym, ap, _∙_}
+use mathlib.Core.Bool.{Bool, true, false, cond, _&&_}
+use native.Mathlib.Omega.{arith}
+use Rattle.language.specs.Term.{Term, Terms, Arms, fun, call, bind, con, cases, nil, cons, arm, size}
+use Rattle.language.specs.Run.{atom, atoms}
+use Rattle.language.specs.Read.{Got, found, fault, then, made, many}
+use Rattle.sizes.specs.Lengths.{passingLength, passingLengths, armLengths}
+use Rattle.sizes.proofs.Lengths.{by-test, of-fun, of-call, of-bind, of-cases, of-arm, of-con, of-con-unfinished}
+use Rattle.reading.specs.Steps.{stepOf, termStep, termsStep, armsStep, grownOf, joinedOf, builtOf}
+use Rattle.reading.specs.declared.Step.{Step}
+use Rattle.reading.specs.declared.Step.the-variants.{Next, No}
+
+pub never : {C : Type 0} → _≡_ {A = ℕ} 0 1 → C
+never z = absurd (omega arith)
+
+-- a step for what a reading comes to is a step for the reading
+pub came : {A : Type 0} (α : A → Bool) (π : A → ℕ) {g h : Got A} {x : Step} → g ≡ h → x ≡ stepOf α π h → x ≡ stepOf α π g
+came α π e k = k ∙ sym (ap (stepOf α π) e)
+
+-- a fault of the first part is the whole's
+pub stops : {A B : Type 0} (α : A → Bool) (π : A → ℕ) (β : B → Bool) (ρ : B → ℕ) (g : Got A) (f : A → ℕ → Got B) {r : Step} {e p : ℕ}
+    → r ≡ stepOf α π g → r ≡ No e p → No e p ≡ stepOf β ρ (then g f)
+unfolding stepOf then
+stops α π β ρ (found a to) f h k = never cc
+stops α π β ρ (fault n at) f h k = cc
+
+-- a first part that was read is followed by what stands after it
+pub goes : {A B : Type 0} (α : A → Bool) (π : A → ℕ) (β : B → Bool) (ρ : B → ℕ) (g : Got A) (f : A → ℕ → Got B) {r x : Step} {to z : ℕ} {b : Bool}
+    → r ≡ stepOf α π g → r ≡ Next to b z → ((a : A) → α a ≡ b → π a ≡ z → x ≡ stepOf β ρ (f a to)) → x ≡ stepOf β ρ (then g f)
+unfolding stepOf then
+goes α π β ρ (found a at) f {to = to} h k next = let e : at ≡ to = cc in rw e (next a (cc) (cc))
+goes α π β ρ (fault n at) f h k next = never cc
+
+-- a larger thing, so many words longer
+grows : {A B : Type 0} (α : A → Bool) (π : A → ℕ) (β : B → Bool) (ρ : B → ℕ) (f : A → B) (g : Got A) {r x : Step} (b : Bool) (z k : ℕ)
+    → r ≡ stepOf α π g → ((a : A) → β (f a) ≡ b) → ((a : A) (to : ℕ) → g ≡ found a to → ρ (f a) ≡ π a + z + k) → x ≡ grownOf b z k r
+    → x ≡ stepOf β ρ (made f g)
+unfolding stepOf made grownOf
+grows α π β ρ f (found a at) b z k h p q e = e ∙ ap (grownOf b z k) h ∙ simp (p a, q a at refl)
+grows α π β ρ f (fault n at) b z k h p q e = e ∙ ap (grownOf b z k) h
+
+-- what a reading that gives something went through
+then-found : {A B : Type 0} (g : Got A) (f : A → ℕ → Got B) {b : B} {j : ℕ} → then g f ≡ found b j
+    → (a : A) × (i : ℕ) × (g ≡ found a i) × (f a i ≡ found b j)
+unfolding then
+then-found (found a i) f h = (a, i, refl, h)
+then-found (fault e p) f h = never cc
+
+made-found : {A B : Type 0} (f : A → B) (g : Got A) {b : B} {j : ℕ} → made f g ≡ found b j → (a : A) × (g ≡ found a j) × (b ≡ f a)
+unfolding made
+made-found f (found a i) h = (a, cc, cc)
+made-found f (fault e p) h = never cc
+
+-- reading k terms gives k terms
+pub sized : (p : ℕ → Got Term) (k at : ℕ) (ts : Terms) (to : ℕ) → many p k at ≡ found ts to → size ts ≡ k
+unfolding many size
+sized p zero at ts to e = let q : nil ≡ ts = cc in rw (← q)
+sized p (suc k) at ts to e =
+    let first = then-found (p at) (λ t i. made (cons t) (many p k i)) e in
+    let rest = made-found (cons (first .0)) (many p k (first .1)) (first .3) in
+    rw (rest .2) (ap suc (sized p k (first .1) (rest .0) to (rest .1)))
+
+-- what each form adds to the words of its parts' passing forms
+pub of-function : (o a : ℕ) (g : Got Term) {r x : Step} → r ≡ termStep g → x ≡ grownOf true 0 6 r → x ≡ termStep (made (fun o a) g)
+unfolding atom
+of-function o a g h e = grows _ _ _ _ (fun o a) g _ _ _ h (λ b. refl) (λ b to q. omega (arith, of-fun o a b)) e
+
+pub of-calling : (p : ℕ → Got Term) (k at : ℕ) (f : Term) {z : ℕ} {r x : Step} → passingLength f ≡ z → r ≡ termsStep (many p k at)
+    → x ≡ grownOf false z (3 * k + 6) r → x ≡ termStep (made (call f) (many p k at))
+unfolding atom
+of-calling p k at f q h e =
+    grows _ _ _ _ (call f) (many p k at) _ _ _ h (λ ps. refl) (λ ps to w. omega (arith, of-call f ps, sized p k at ps to w)) e
+
+pub of-let : (m : Term) (g : Got Term) {z : ℕ} {r x : Step} → passingLength m ≡ z → r ≡ termStep g → x ≡ grownOf false z 7 r
+    → x ≡ termStep (made (bind m) g)
+unfolding atom
+of-let m g q h e = grows _ _ _ _ (bind m) g _ _ _ h (λ b. refl) (λ b to w. omega (arith, of-bind m b)) e
+
+pub of-match : (m : Term) (g : Got Arms) {z : ℕ} {r x : Step} → passingLength m ≡ z → r ≡ armsStep g → x ≡ grownOf false z 5 r
+    → x ≡ termStep (made (cases m) g)
+unfolding atom
+of-match m g q h e = grows _ _ _ _ (cases m) g _ _ _ h (λ ps. refl) (λ ps to w. omega (arith, of-cases m ps)) e
+
+pub of-an-arm : (t n : ℕ) (b : Term) (g : Got Arms) {z : ℕ} {r x : Step} → passingLength b ≡ z → r ≡ armsStep g → x ≡ grownOf false z 4 r
+    → x ≡ armsStep (made (arm t n b) g)
+of-an-arm t n b g q h e = grows _ _ _ _ (arm t n b) g _ _ _ h (λ ps. refl) (λ ps to w. omega (arith, of-arm t n b ps)) e
+
+pub of-cons : (t : Term) (g : Got Terms) {z : ℕ} {b : Bool} {r x : Step} → atom t ≡ b → passingLength t ≡ z → r ≡ termsStep g → x ≡ joinedOf b z r
+    → x ≡ termsStep (made (cons t) g)
+unfolding stepOf made joinedOf atom passingLengths
+of-cons t (found ts at) {z = z} {b = b} p q h e = e ∙ ap (joinedOf b z) h ∙ simp (← p, ← q) (ap (Next at (atom t && atoms ts)) (omega arith))
+of-cons t (fault n at) {z = z} {b = b} p q h e = e ∙ ap (joinedOf b z) h
+
+-- a constructor's words by the test whether its arguments are atoms
+con-words : (a m : ℕ) (ts : Terms) → size ts ≡ m → cond (atoms ts) (passingLengths ts + 5 - 3 * m) (passingLengths ts + 3 * m + 5) ≡ passingLength (con a ts)
+con-words a m ts e = by-test (atoms ts) (λ q. simp q (omega (arith, of-con a ts q))) (λ q. simp q (omega (arith, of-con-unfinished a ts q)))
+
+builds : (a m : ℕ) (g : Got Terms) → ((ts : Terms) (to : ℕ) → g ≡ found ts to → size ts ≡ m) → {r x : Step} → r ≡ termsStep g → x ≡ builtOf m r
+    → x ≡ termStep (made (con a) g)
+unfolding stepOf made builtOf atom
+builds a m (found ts to) z h e = e ∙ ap (builtOf m) h ∙ ap (Next to (atoms ts)) (con-words a m ts (z ts to refl))
+builds a m (fault n p) z h e = e ∙ ap (builtOf m) h
+
+pub of-construct : (p : ℕ → Got Term) (m at a : ℕ) {r x : Step} → r ≡ termsStep (many p m at) → x ≡ builtOf m r
+    → x ≡ termStep (made (con a) (many p m at))
+of-construct p m at a h e = builds a m (many p m at) (sized p m at) h e

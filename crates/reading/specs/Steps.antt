@@ -1,0 +1,64 @@
+-- What the reading functions say of what they read, and how they put it together: the place after a thing, whether it is all atoms, and
+-- how many words its passing forms have.
+use Prim.Native.Nat.{ℕ, _+_, _-_, _*_, _≤_}
+use mathlib.Core.Bool.{Bool, true, false, cond, _&&_}
+use Rattle.language.specs.Term.{Term, Terms, Arms}
+use Rattle.language.specs.Run.{atom, atoms}
+use Rattle.language.specs.Read.{Got, found, fault}
+use Rattle.sizes.specs.Lengths.{passingLength, passingLengths, armLengths}
+use Rattle.reading.specs.declared.Step.{Step}
+use Rattle.reading.specs.declared.Step.the-variants.{Next, No}
+use Rattle.reading.specs.declared.Count.{Count}
+use Rattle.reading.specs.declared.Count.the-variants.{Is, Not}
+
+-- numbers up to here are added without wrapping
+abbrev pub small : ℕ
+small = 1048576
+
+-- the most source variables that one level of terms can bind, by what a low byte can say: 255 arguments and a name
+abbrev pub levelBinds : ℕ
+levelBinds = 256
+
+-- what was read, or the fault: α says whether a thing is all atoms, and π how many words its passing forms have
+unfoldable pub stepOf : {A : Type 0} → (A → Bool) → (A → ℕ) → Got A → Step
+stepOf α π (found a to) = Next to (α a) (π a)
+stepOf α π (fault e p) = No e p
+
+abbrev pub termStep : Got Term → Step
+termStep g = stepOf atom passingLength g
+
+abbrev pub termsStep : Got Terms → Step
+termsStep g = stepOf atoms passingLengths g
+
+abbrev pub armsStep : Got Arms → Step
+armsStep g = stepOf (λ _. false) armLengths g
+
+-- a second word, whose place is known
+abbrev pub countOf : Got ℕ → Count
+countOf (found m to) = Is m
+countOf (fault e p) = Not e
+
+-- the words that a step counts
+unfoldable pub wordsOf : Step → ℕ
+wordsOf (Next to b z) = z
+wordsOf (No e p) = 0
+
+-- a larger thing: z words more of a part before it and by words of its own; all atoms or not as told
+unfoldable pub grownOf : Bool → ℕ → ℕ → Step → Step
+grownOf b z by (Next to c y) = Next to b (y + z + by)
+grownOf b z by (No e p) = No e p
+
+-- terms with one in front of them, whose passing form has z words
+unfoldable pub joinedOf : Bool → ℕ → Step → Step
+joinedOf b z (Next to c y) = Next to (b && c) (y + z)
+joinedOf b z (No e p) = No e p
+
+-- a constructor of m arguments
+unfoldable pub builtOf : ℕ → Step → Step
+builtOf m (Next to b z) = Next to b (cond b (z + 5 - 3 * m) (z + 3 * m + 5))
+builtOf m (No e p) = No e p
+
+-- there are three words for each of m arguments
+unfoldable pub Roomy : ℕ → Step → Type 0
+Roomy m (Next to b z) = 3 * m ≤ z
+Roomy m (No e p) = Unit {0}

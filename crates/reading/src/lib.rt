@@ -1,0 +1,273 @@
+// Reads a rule: one forward pass checks its words and measures its image. Terms, lists and arms are read through each other.
+use language::Head;
+use language::Parts;
+use language::Row;
+ghost use mathlib.Core.Path.{_≡_};
+ghost use Prim.Native.Nat.{_+_, _*_, _≤_, _<_};
+ghost use lib.ListN.{length};
+ghost use Rattle.language.specs.Read.{second, many, armsOf, opened, term, read};
+ghost use Rattle.language.specs.Calls.{checked, measured};
+ghost use Rattle.reading.specs.Steps.{small, levelBinds, termStep, termsStep, armsStep, countOf, wordsOf, grownOf, joinedOf, builtOf, Roomy};
+ghost use Rattle.reading.specs.Answers.{answerOf, checkedReply, measuredReply};
+
+// The numbers of the refusals. At a head, 4 and 5 come from the table of kinds.
+const NO_WORDS: u8 = 1;
+
+const TOO_MANY_WORDS: u8 = 2;
+
+const NONE_LEFT: u8 = 3;
+
+const WRONG_KIND: u8 = 4;
+
+const OUT_OF_RANGE: u8 = 5;
+
+const TOO_DEEP: u8 = 6;
+
+const UNBOUND: u8 = 7;
+
+const LEFT_OVER: u8 = 8;
+
+// The words of a variable's passing form, and those that each other form has besides its parts' passing forms.
+const VARIABLE_WORDS: usize = 4;
+
+const FUNCTION_WORDS: usize = 6;
+
+const CALL_WORDS: usize = 6;
+
+const LET_WORDS: usize = 7;
+
+const CONSTRUCTOR_WORDS: usize = 5;
+
+const MATCH_WORDS: usize = 5;
+
+const ARM_WORDS: usize = 4;
+
+const IMAGE_WORDS: usize = 3;
+
+// The words of a chain for each argument; so many, too, does an atom's passing form have besides its carried form.
+const ARGUMENT_WORDS: usize = 3;
+
+// What reading a thing gives: the place after it, whether it is all atoms, and the words of its passing forms; or a refusal's
+// number and the place of the word tested.
+enum Step {
+    Next(usize, bool, usize),
+    No(u8, usize),
+}
+
+// What reading a second word gives: a count, or a refusal's number.
+enum Count {
+    Is(u16),
+    Not(u8),
+}
+
+// What reading a rule gives: the words of its image; or a refusal's number and the place of the word tested.
+enum Answer {
+    Words(usize),
+    No(u8, usize),
+}
+
+// The checking call's reply.
+pub enum Checked {
+    Accepted,
+    Refused(u8),
+}
+
+// The measuring call's reply: the words of the image, or a refusal's number.
+pub enum Measured {
+    Words(usize),
+    Refused(u8),
+}
+
+// A larger thing: z words more of a part before it and by words of its own; all atoms or not as told.
+fn grown(r: Step, all: bool, z: usize, by: usize) -> Step
+    requires { ⌜ (wordsOf r ≤ small) × (z ≤ small) × (by ≤ small) ⌝ }
+    ensures { λ x. ⌜ x ≡ grownOf all z by r ⌝ }
+{
+    match r {
+        Step::No(e, p) => Step::No(e, p),
+        Step::Next(to, _, y) => Step::Next(to, all, y + z + by),
+    }
+}
+
+// Terms with one in front of them, whose passing form has z words.
+fn joined(r: Step, all: bool, z: usize) -> Step
+    requires { ⌜ (wordsOf r ≤ small) × (z ≤ small) ⌝ }
+    ensures { λ x. ⌜ x ≡ joinedOf all z r ⌝ }
+{
+    match r {
+        Step::No(e, p) => Step::No(e, p),
+        Step::Next(to, b, y) => {
+            if all {
+                Step::Next(to, b, y + z)
+            } else {
+                Step::Next(to, false, y + z)
+            }
+        }
+    }
+}
+
+// A constructor of m arguments: their carried forms if all are atoms, else a chain over them.
+fn built(r: Step, m: usize) -> Step
+    requires { ⌜ (wordsOf r ≤ small) × (m < 256) × Roomy m r ⌝ }
+    ensures { λ x. ⌜ x ≡ builtOf m r ⌝ }
+{
+    match r {
+        Step::No(e, p) => Step::No(e, p),
+        Step::Next(to, b, z) => {
+            if b {
+                Step::Next(to, b, z + CONSTRUCTOR_WORDS - ARGUMENT_WORDS * m)
+            } else {
+                Step::Next(to, b, z + ARGUMENT_WORDS * m + CONSTRUCTOR_WORDS)
+            }
+        }
+    }
+}
+
+// A second word: how many arguments.
+fn second_at(s: &[u16], at: usize) -> Count
+    ensures { λ r. ⌜ r ≡ countOf (second (now (s .entry)) at) ⌝ }
+{
+    if s.len() <= at {
+        return Count::Not(NONE_LEFT);
+    }
+    let m = s[at];
+    if language::MOST_ARGUMENTS < m {
+        return Count::Not(OUT_OF_RANGE);
+    }
+    Count::Is(m)
+}
+
+// A term, with so many levels of depth left, under so many source variables.
+fn term_at(s: &[u16], at: usize, depth: usize, bound: usize) -> Step
+    requires { ⌜ (length (now s) ≤ 65536) × (bound + levelBinds * depth ≤ small) ⌝ }
+    ensures { λ r. ⌜ r ≡ termStep (term (now (s .entry)) depth bound at) ⌝ }
+{
+    if s.len() <= at {
+        return Step::No(NONE_LEFT, at);
+    }
+    if depth == 0 {
+        return Step::No(TOO_DEEP, at);
+    }
+    let w = s[at];
+    match language::look(language::AT_TERM, w) {
+        Head::Refused(e) => Step::No(e, at),
+        Head::Opens(row) => opened_at(s, at, depth - 1, bound, (w % 256) as usize, row),
+    }
+}
+
+// The term whose head, at this place, has this low byte and this row; its parts have so many levels of depth left.
+fn opened_at(s: &[u16], at: usize, depth: usize, bound: usize, low: usize, row: Row) -> Step
+    requires { ⌜ (length (now s) ≤ 65536) × (bound + levelBinds * (depth + 1) ≤ small) × (at < length (now s)) × (low < 256) × (row .binds ≤ 1) ⌝ }
+    ensures { λ r. ⌜ r ≡ termStep (opened (now (s .entry)) (term (now (s .entry)) depth) bound at low (row .binds) (row .parts)) ⌝ }
+{
+    let next = at + 1;
+    let binds = row.binds;
+    let parts = row.parts;
+    match parts {
+        Parts::Nothing => {
+            if low < bound {
+                Step::Next(next, true, VARIABLE_WORDS)
+            } else {
+                Step::No(UNBOUND, at)
+            }
+        }
+        Parts::Body => grown(term_at(s, next, depth, bound + low + binds), true, 0, FUNCTION_WORDS),
+        Parts::FunctionAndArguments => match term_at(s, next, depth, bound) {
+            Step::No(e, p) => Step::No(e, p),
+            Step::Next(to, _, z) => grown(terms_at(s, to, depth, bound, low), false, z, ARGUMENT_WORDS * low + CALL_WORDS),
+        },
+        Parts::BoundAndBody => match term_at(s, next, depth, bound) {
+            Step::No(e, p) => Step::No(e, p),
+            Step::Next(to, _, z) => grown(term_at(s, to, depth, bound + binds), false, z, LET_WORDS),
+        },
+        Parts::CountAndArguments => match second_at(s, next) {
+            Count::Not(e) => Step::No(e, next),
+            Count::Is(m) => built(terms_at(s, next + 1, depth, bound, m as usize), m as usize),
+        },
+        Parts::SubjectAndArms => match term_at(s, next, depth, bound) {
+            Step::No(e, p) => Step::No(e, p),
+            Step::Next(to, _, z) => grown(arms_at(s, to, depth, bound, low), false, z, MATCH_WORDS),
+        },
+        Parts::ArityAndBody => Step::No(WRONG_KIND, at),
+    }
+}
+
+// So many terms, one after the other.
+fn terms_at(s: &[u16], at: usize, depth: usize, bound: usize, count: usize) -> Step
+    requires { ⌜ (length (now s) ≤ 65536) × (bound + levelBinds * depth ≤ small) × (count < 256) ⌝ }
+    ensures { λ r. ⌜ r ≡ termsStep (many (term (now (s .entry)) depth bound) count at) ⌝ }
+{
+    if count == 0 {
+        return Step::Next(at, true, 0);
+    }
+    match term_at(s, at, depth, bound) {
+        Step::No(e, p) => Step::No(e, p),
+        Step::Next(to, b, z) => joined(terms_at(s, to, depth, bound, count - 1), b, z),
+    }
+}
+
+// So many arms, one after the other.
+fn arms_at(s: &[u16], at: usize, depth: usize, bound: usize, count: usize) -> Step
+    requires { ⌜ (length (now s) ≤ 65536) × (bound + levelBinds * (depth + 1) ≤ small) × (count < 256) ⌝ }
+    ensures { λ r. ⌜ r ≡ armsStep (armsOf (now (s .entry)) (term (now (s .entry)) depth) bound count at) ⌝ }
+{
+    if count == 0 {
+        return Step::Next(at, false, 0);
+    }
+    if s.len() <= at {
+        return Step::No(NONE_LEFT, at);
+    }
+    if let Head::Refused(e) = language::look(language::AT_ARM, s[at]) {
+        return Step::No(e, at);
+    }
+    let next = at + 1;
+    match second_at(s, next) {
+        Count::Not(e) => Step::No(e, next),
+        Count::Is(m) => match term_at(s, next + 1, depth, bound + m as usize) {
+            Step::No(e, p) => Step::No(e, p),
+            Step::Next(to, _, z) => grown(arms_at(s, to, depth, bound, count - 1), false, z, ARM_WORDS),
+        },
+    }
+}
+
+// What a sequence of words comes to as a rule.
+fn judge(s: &[u16]) -> Answer
+    ensures { λ r. ⌜ r ≡ answerOf (read (now (s .entry))) ⌝ }
+{
+    if s.len() == 0 {
+        return Answer::No(NO_WORDS, 0);
+    }
+    if language::MOST_WORDS < s.len() {
+        return Answer::No(TOO_MANY_WORDS, 0);
+    }
+    match term_at(s, 0, language::DEEPEST, 0) {
+        Step::No(e, p) => Answer::No(e, p),
+        Step::Next(to, _, z) => {
+            if to < s.len() {
+                Answer::No(LEFT_OVER, to)
+            } else {
+                Answer::Words(z + IMAGE_WORDS)
+            }
+        }
+    }
+}
+
+// Whether the words are a rule.
+pub fn check(s: &[u16]) -> Checked
+    ensures { λ r. ⌜ checkedReply r ≡ checked (read (now (s .entry))) ⌝ }
+{
+    match judge(s) {
+        Answer::No(e, _) => Checked::Refused(e),
+        Answer::Words(_) => Checked::Accepted,
+    }
+}
+
+// How many words the image of a rule has.
+pub fn measure(s: &[u16]) -> Measured
+    ensures { λ r. ⌜ measuredReply r ≡ measured (read (now (s .entry))) ⌝ }
+{
+    match judge(s) {
+        Answer::No(e, _) => Measured::Refused(e),
+        Answer::Words(n) => Measured::Words(n),
+    }
+}
