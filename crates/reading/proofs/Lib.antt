@@ -1,2 +1,4 @@
 pub mod Steps
+pub mod Sums
 pub mod Ways
+pub mod Answers

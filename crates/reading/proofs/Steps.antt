@@ -1,15 +1,17 @@
 -- What a step says of the reading that it answers for: a fault of a part is the whole's, a part that was read is followed by what stands after
 -- it, and a larger thing is as many words longer as its form adds. Nothing here speaks of code.
 -- Assumes nothing.
-use Prim.Native.Nat.{ℕ, zero, suc, _+_, _-_, _*_, _≤_}
+use Prim.Native.Nat.{ℕ, _+_, _-_, _*_}
 use mathlib.Core.Path.{_≡_, refl, sym, ap, _∙_}
 use mathlib.Core.Bool.{Bool, true, false, cond, _&&_}
+use mathlib.Core.List.{List}
 use native.Mathlib.Omega.{arith}
-use Rattle.language.specs.Term.{Term, Terms, Arms, fun, call, bind, con, cases, nil, cons, arm, size}
+use Rattle.language.specs.Term.{Term, Terms, Arms, fun, call, bind, con, cases, cons, arm, size}
 use Rattle.language.specs.Run.{atom, atoms}
-use Rattle.language.specs.Read.{Got, found, fault, then, made, many}
+use Rattle.language.specs.Read.{Got, found, fault, then, made, many, term}
 use Rattle.sizes.specs.Lengths.{passingLength, passingLengths, armLengths}
 use Rattle.sizes.proofs.Lengths.{by-test, of-fun, of-call, of-bind, of-cases, of-arm, of-con, of-con-unfinished}
+use Rattle.trust.proofs.Accepted.{holds-found, many-good, term-good}
 use Rattle.reading.specs.Steps.{stepOf, termStep, termsStep, armsStep, grownOf, joinedOf, builtOf}
 use Rattle.reading.specs.declared.Step.{Step}
 use Rattle.reading.specs.declared.Step.the-variants.{Next, No}
@@ -43,37 +45,20 @@ unfolding stepOf made grownOf
 grows α π β ρ f (found a at) b z k h p q e = e ∙ ap (grownOf b z k) h ∙ simp (p a, q a at refl)
 grows α π β ρ f (fault n at) b z k h p q e = e ∙ ap (grownOf b z k) h
 
--- what a reading that gives something went through
-then-found : {A B : Type 0} (g : Got A) (f : A → ℕ → Got B) {b : B} {j : ℕ} → then g f ≡ found b j
-    → (a : A) × (i : ℕ) × (g ≡ found a i) × (f a i ≡ found b j)
-unfolding then
-then-found (found a i) f h = (a, i, refl, h)
-then-found (fault e p) f h = never cc
-
-made-found : {A B : Type 0} (f : A → B) (g : Got A) {b : B} {j : ℕ} → made f g ≡ found b j → (a : A) × (g ≡ found a j) × (b ≡ f a)
-unfolding made
-made-found f (found a i) h = (a, cc, cc)
-made-found f (fault e p) h = never cc
-
 -- reading k terms gives k terms
-pub sized : (p : ℕ → Got Term) (k at : ℕ) (ts : Terms) (to : ℕ) → many p k at ≡ found ts to → size ts ≡ k
-unfolding many size
-sized p zero at ts to e = let q : nil ≡ ts = cc in rw (← q)
-sized p (suc k) at ts to e =
-    let first = then-found (p at) (λ t i. made (cons t) (many p k i)) e in
-    let rest = made-found (cons (first .0)) (many p k (first .1)) (first .3) in
-    rw (rest .2) (ap suc (sized p k (first .1) (rest .0) to (rest .1)))
+sized : (s : List ℕ) (d n k at : ℕ) (ts : Terms) (to : ℕ) → many (term s d n) k at ≡ found ts to → size ts ≡ k
+sized s d n k at ts to e = holds-found (many-good s d (term s d) (term-good s d) n k at) e .counted
 
 -- what each form adds to the words of its parts' passing forms
 pub of-function : (o a : ℕ) (g : Got Term) {r x : Step} → r ≡ termStep g → x ≡ grownOf true 0 6 r → x ≡ termStep (made (fun o a) g)
 unfolding atom
 of-function o a g h e = grows _ _ _ _ (fun o a) g _ _ _ h (λ b. refl) (λ b to q. omega (arith, of-fun o a b)) e
 
-pub of-calling : (p : ℕ → Got Term) (k at : ℕ) (f : Term) {z : ℕ} {r x : Step} → passingLength f ≡ z → r ≡ termsStep (many p k at)
-    → x ≡ grownOf false z (3 * k + 6) r → x ≡ termStep (made (call f) (many p k at))
+pub of-calling : (s : List ℕ) (d n k at : ℕ) (f : Term) {z : ℕ} {r x : Step} → passingLength f ≡ z → r ≡ termsStep (many (term s d n) k at)
+    → x ≡ grownOf false z (3 * k + 6) r → x ≡ termStep (made (call f) (many (term s d n) k at))
 unfolding atom
-of-calling p k at f q h e =
-    grows _ _ _ _ (call f) (many p k at) _ _ _ h (λ ps. refl) (λ ps to w. omega (arith, of-call f ps, sized p k at ps to w)) e
+of-calling s d n k at f q h e =
+    grows _ _ _ _ (call f) (many (term s d n) k at) _ _ _ h (λ ps. refl) (λ ps to w. omega (arith, of-call f ps, sized s d n k at ps to w)) e
 
 pub of-let : (m : Term) (g : Got Term) {z : ℕ} {r x : Step} → passingLength m ≡ z → r ≡ termStep g → x ≡ grownOf false z 7 r
     → x ≡ termStep (made (bind m) g)
@@ -105,6 +90,6 @@ unfolding stepOf made builtOf atom
 builds a m (found ts to) z h e = e ∙ ap (builtOf m) h ∙ ap (Next to (atoms ts)) (con-words a m ts (z ts to refl))
 builds a m (fault n p) z h e = e ∙ ap (builtOf m) h
 
-pub of-construct : (p : ℕ → Got Term) (m at a : ℕ) {r x : Step} → r ≡ termsStep (many p m at) → x ≡ builtOf m r
-    → x ≡ termStep (made (con a) (many p m at))
-of-construct p m at a h e = builds a m (many p m at) (sized p m at) h e
+pub of-construct : (s : List ℕ) (d n m at a : ℕ) {r x : Step} → r ≡ termsStep (many (term s d n) m at) → x ≡ builtOf m r
+    → x ≡ termStep (made (con a) (many (term s d n) m at))
+of-construct s d n m at a h e = builds a m (many (term s d n) m at) (sized s d n m at) h e

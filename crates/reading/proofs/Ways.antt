@@ -8,10 +8,9 @@ use mathlib.Core.List.{List}
 use mathlib.Core.Logic.{_⊎_, inl, inr, ⊎-elim}
 use native.Mathlib.Omega.{arith}
 use native.Mathlib.Numerals.{sub-one}
-use lib.Dec.{ltb, leb}
 use lib.ListN.{length, getD}
 use borrow.Author.Needs.{needs}
-use borrow.Author.Tests.{lt-ltb, le-ltb, lt-leb, le-leb, leb-true}
+use borrow.Author.Tests.{lt-ltb, le-ltb, lt-leb, le-leb}
 use Rattle.language.specs.Term.{Term, Terms, Arms, cons, arm}
 use Rattle.language.specs.Run.{atom, atoms}
 use Rattle.language.specs.Kinds.{mostArguments, atTerm, atArm, headOf}
@@ -28,7 +27,43 @@ use Rattle.reading.specs.declared.Step.{Step}
 use Rattle.reading.specs.declared.Step.the-variants.{Next, No}
 use Rattle.reading.specs.declared.Count.{Count}
 use Rattle.reading.specs.declared.Count.the-variants.{Is, Not}
-use Rattle.reading.proofs.Steps.{never, came, stops, goes, of-function, of-calling, of-let, of-match, of-an-arm, of-cons, of-construct}
+use Rattle.reading.proofs.Sums.{second-not, second-is, sums}
+use Rattle.reading.proofs.Steps.{came, stops, goes, of-function, of-calling, of-let, of-match, of-an-arm, of-cons, of-construct}
+
+-- what is put together of steps
+module _ {r : Step} {e p : ℕ} (h : r ≡ No e p) where
+  pub g-no : (b : Bool) (z k : ℕ) → No e p ≡ grownOf b z k r
+  unfolding grownOf
+  g-no b z k = rw h
+
+  pub j-no : (b : Bool) (z : ℕ) → No e p ≡ joinedOf b z r
+  unfolding joinedOf
+  j-no b z = rw h
+
+  pub b-no : (m : ℕ) → No e p ≡ builtOf m r
+  unfolding builtOf
+  b-no m = rw h
+
+module _ {r : Step} {to y : ℕ} {c : Bool} (h : r ≡ Next to c y) where
+  pub g-next : (b : Bool) (z k : ℕ) → Next to b (y + z + k) ≡ grownOf b z k r
+  unfolding grownOf
+  g-next b z k = rw h
+
+  pub j-atom : (b : Bool) (z : ℕ) → b ≡ true → Next to c (y + z) ≡ joinedOf b z r
+  unfolding joinedOf
+  j-atom b z q = rw (h, q)
+
+  pub j-other : (b : Bool) (z : ℕ) → b ≡ false → Next to false (y + z) ≡ joinedOf b z r
+  unfolding joinedOf
+  j-other b z q = rw (h, q)
+
+  pub b-atoms : (m : ℕ) → c ≡ true → Next to c (y + 5 - 3 * m) ≡ builtOf m r
+  unfolding builtOf
+  b-atoms m q = rw (h, q)
+
+  pub b-others : (m : ℕ) → c ≡ false → Next to c (y + 3 * m + 5) ≡ builtOf m r
+  unfolding builtOf
+  b-others m q = rw (h, q)
 
 -- a second word
 module _ (s : List ℕ) (at : ℕ) where
@@ -44,47 +79,140 @@ module _ (s : List ℕ) (at : ℕ) where
   unfolding second
   c-is h k = simp (lt-ltb _ _ h, le-leb _ _ k)
 
--- what the code's count says of the definition's second word; `a` and `b` are the two tests
-counted : Bool → Bool → ℕ → ℕ → Got ℕ
-counted a b w at = cond a (cond b (found w (at + 1)) (fault 5 at)) (fault 3 at)
-
-not-counted : (a b : Bool) (w at : ℕ) {r : Count} {e : ℕ} → r ≡ countOf (counted a b w at) → r ≡ Not e → counted a b w at ≡ fault e at
-unfolding counted
-not-counted true true w at h k = never cc
-not-counted true false w at h k = cc
-not-counted false b w at h k = cc
-
-is-counted : (a b : Bool) (w at : ℕ) {r : Count} {m : ℕ} → (b ≡ true → w ≤ mostArguments) → r ≡ countOf (counted a b w at) → r ≡ Is m
-    → (counted a b w at ≡ found m (at + 1)) × (m ≤ mostArguments)
-unfolding counted
-is-counted true true w at {m = m} le h k = let e : w ≡ m = cc in (cc, rw e at (le refl))
-is-counted true false w at le h k = never cc
-is-counted false b w at le h k = never cc
-
-module _ (s : List ℕ) (at : ℕ) {r : Count} (h : r ≡ countOf (second s at)) where
-  second-not : {e : ℕ} → r ≡ Not e → second s at ≡ fault e at
-  unfolding second counted
-  second-not k = not-counted (ltb at (length s)) (leb (getD s at 0) mostArguments) (getD s at 0) at h k
-
-  second-is : {m : ℕ} → r ≡ Is m → (second s at ≡ found m (at + 1)) × (m ≤ mostArguments)
-  unfolding second counted
-  second-is k = is-counted (ltb at (length s)) (leb (getD s at 0) mostArguments) (getD s at 0) at (leb-true (getD s at 0) mostArguments) h k
-
-  -- a second word is no larger than a low byte
-  pub second-byte : {m : ℕ} → r ≡ Is m → m < 256
-  second-byte k = omega (arith, second-is k .1)
-
 -- a term, up to its head
-module _ (s : List ℕ) (d n at : ℕ) where
-  pub t-none : length s ≤ at → No 3 at ≡ termStep (term s d n at)
-  unfolding stepOf
-  t-none h = came _ _ (go d) refl
-    where
-      go : (d : ℕ) → term s d n at ≡ fault 3 at
-      unfolding term
-      go zero = simp (le-ltb _ _ h)
-      go (suc d) = simp (le-ltb _ _ h)
+pub t-none : (s : List ℕ) (d n at : ℕ) → length s ≤ at → No 3 at ≡ termStep (term s d n at)
+unfolding stepOf term
+t-none s zero n at h = simp (le-ltb _ _ h)
+t-none s (suc d) n at h = simp (le-ltb _ _ h)
 
-  pub t-deep : at < length s → d ≡ 0 → No 6 at ≡ termStep (term s d n at)
-  unfolding stepOf term
-  t-deep h z = simp (z, lt-ltb at (length s) h)
+pub t-deep : (s : List ℕ) (d n at : ℕ) → at < length s → d ≡ 0 → No 6 at ≡ termStep (term s d n at)
+unfolding stepOf term
+t-deep s d n at h z = simp (z, lt-ltb at (length s) h)
+
+headed-term : (s : List ℕ) (d n at : ℕ) {r : Head} → at < length s → (d ≡ 0 → ⊥) → r ≡ headOf atTerm (getD s at 0)
+    → term s d n at ≡ headed r at (λ f. opened s (term s (d - 1)) n at (getD s at 0 % 256) (f .binds) (f .parts))
+unfolding term
+headed-term s zero n at h z e = absurd (z refl)
+headed-term s (suc d) n at h z e = simp (sub-one, lt-ltb at (length s) h, e)
+
+module _ (s : List ℕ) (d n at : ℕ) {r : Head} (h : at < length s) (z : d ≡ 0 → ⊥) (e : r ≡ headOf atTerm (getD s at 0)) where
+  pub t-refused : {b : ℕ} → r ≡ Refused b → No b at ≡ termStep (term s d n at)
+  unfolding stepOf
+  t-refused {b} i = came _ _ {h = fault b at} (headed-term s d n at h z e ∙ simp i) refl
+
+  pub t-opened : {f : Row} {x : Step} → r ≡ Opens f → x ≡ termStep (opened s (term s (d - 1)) n at (getD s at 0 % 256) (f .binds) (f .parts))
+      → x ≡ termStep (term s d n at)
+  t-opened i k = came _ _ (headed-term s d n at h z e ∙ simp i) k
+
+-- a term, from its head on
+module _ (s : List ℕ) (p : ℕ → ℕ → Got Term) (n at a o : ℕ) {f : Parts} where
+  pub p-bound : f ≡ Nothing → a < n → Next (at + 1) true 4 ≡ termStep (opened s p n at a o f)
+  unfolding stepOf opened atom
+  p-bound q k = simp (q, lt-ltb _ _ k, of-var)
+
+  pub p-unbound : f ≡ Nothing → n ≤ a → No 7 at ≡ termStep (opened s p n at a o f)
+  unfolding stepOf opened
+  p-unbound q k = simp (q, le-ltb _ _ k)
+
+  pub p-stray : f ≡ ArityAndBody → No 4 at ≡ termStep (opened s p n at a o f)
+  unfolding stepOf opened
+  p-stray q = simp q
+
+  pub p-body : f ≡ Body → {x y : Step} → y ≡ termStep (p (n + a + o) (at + 1)) → x ≡ grownOf true 0 6 y → x ≡ termStep (opened s p n at a o f)
+  unfolding opened
+  p-body q k l = rw q (of-function _ _ _ k l)
+
+  -- a first part that is refused: of a call, a let or a match
+  pub p-stop : (f ≡ FunctionAndArguments) ⊎ ((f ≡ BoundAndBody) ⊎ (f ≡ SubjectAndArms)) → {y : Step} {b i : ℕ} → y ≡ termStep (p n (at + 1)) → y ≡ No b i
+      → No b i ≡ termStep (opened s p n at a o f)
+  unfolding opened
+  p-stop c k l = ⊎-elim (λ q. rw q (stops _ _ _ _ _ _ k l)) (⊎-elim (λ q. rw q (stops _ _ _ _ _ _ k l)) (λ q. rw q (stops _ _ _ _ _ _ k l))) c
+
+  pub p-let : f ≡ BoundAndBody → {x y v : Step} {to c : ℕ} {b : Bool} → y ≡ termStep (p n (at + 1)) → y ≡ Next to b c → v ≡ termStep (p (n + o) to)
+      → x ≡ grownOf false c 7 v → x ≡ termStep (opened s p n at a o f)
+  unfolding opened
+  p-let q k l m u = rw q (goes _ _ _ _ _ _ k l (λ t i w. of-let t _ w m u))
+
+  pub p-match : f ≡ SubjectAndArms → {x y v : Step} {to c : ℕ} {b : Bool} → y ≡ termStep (p n (at + 1)) → y ≡ Next to b c → v ≡ armsStep (armsOf s p n a to)
+      → x ≡ grownOf false c 5 v → x ≡ termStep (opened s p n at a o f)
+  unfolding opened
+  p-match q k l m u = rw q (goes _ _ _ _ _ _ k l (λ t i w. of-match t _ w m u))
+
+  pub p-uncounted : f ≡ CountAndArguments → {y : Count} {b : ℕ} → y ≡ countOf (second s (at + 1)) → y ≡ Not b
+      → No b (at + 1) ≡ termStep (opened s p n at a o f)
+  unfolding opened stepOf then
+  p-uncounted q k l = rw (q, second-not s (at + 1) k l)
+
+module _ (s : List ℕ) (d n at a o : ℕ) {f : Parts} where
+  pub p-call : f ≡ FunctionAndArguments → {x y v : Step} {to c : ℕ} {b : Bool} → y ≡ termStep (term s d n (at + 1)) → y ≡ Next to b c
+      → v ≡ termsStep (many (term s d n) a to) → x ≡ grownOf false c (3 * a + 6) v → x ≡ termStep (opened s (term s d) n at a o f)
+  unfolding opened
+  p-call q k l m u = rw q (goes _ _ _ _ _ _ k l (λ t i w. of-calling _ _ _ _ _ t w m u))
+
+  pub p-con : f ≡ CountAndArguments → {x v : Step} {y : Count} {m : ℕ} → y ≡ countOf (second s (at + 1)) → y ≡ Is m
+      → v ≡ termsStep (many (term s d n) m (at + 1 + 1)) → x ≡ builtOf m v → x ≡ termStep (opened s (term s d) n at a o f)
+  unfolding opened then
+  p-con q k l m u = rw (q, second-is s (at + 1) k l .0) (of-construct _ _ _ _ _ _ m u)
+
+-- a list of terms
+many-more : (p : ℕ → Got Term) (k at : ℕ) → (k ≡ 0 → ⊥) → many p k at ≡ then (p at) (λ t to. made (cons t) (many p (k - 1) to))
+unfolding many
+many-more p zero at z = absurd (z refl)
+many-more p (suc k) at z = simp sub-one
+
+module _ (p : ℕ → Got Term) (k at : ℕ) where
+  pub l-end : k ≡ 0 → Next at true 0 ≡ termsStep (many p k at)
+  unfolding many stepOf atom passingLengths
+  l-end z = simp z
+
+  module _ (z : k ≡ 0 → ⊥) where
+    pub l-stop : {y : Step} {b q : ℕ} → y ≡ termStep (p at) → y ≡ No b q → No b q ≡ termsStep (many p k at)
+    l-stop e i = came _ _ (many-more p k at z) (stops _ _ _ _ _ _ e i)
+
+    pub l-more : {x y v : Step} {to c : ℕ} {b : Bool} → y ≡ termStep (p at) → y ≡ Next to b c → v ≡ termsStep (many p (k - 1) to) → x ≡ joinedOf b c v
+        → x ≡ termsStep (many p k at)
+    l-more e i m u = came _ _ (many-more p k at z) (goes _ _ _ _ _ _ e i (λ t o w. of-cons t _ o w m u))
+
+-- arms
+armed : (s : List ℕ) (p : ℕ → ℕ → Got Term) (n k at : ℕ) {r : Head} → (k ≡ 0 → ⊥) → at < length s → r ≡ headOf atArm (getD s at 0)
+    → armsOf s p n k at ≡ headed r at (λ f. then (second s (at + 1)) (λ m to. then (p (n + m) to) (λ b past. made
+    (arm (getD s at 0 % 256) m b) (armsOf s p n (k - 1) past))))
+unfolding armsOf
+armed s p n zero at z h e = absurd (z refl)
+armed s p n (suc k) at z h e = simp (sub-one, lt-ltb at (length s) h, e)
+
+pub a-none : (s : List ℕ) (p : ℕ → ℕ → Got Term) (n k at : ℕ) → (k ≡ 0 → ⊥) → length s ≤ at → No 3 at ≡ armsStep (armsOf s p n k at)
+unfolding stepOf armsOf
+a-none s p n zero at z h = absurd (z refl)
+a-none s p n (suc k) at z h = simp (le-ltb _ _ h)
+
+module _ (s : List ℕ) (p : ℕ → ℕ → Got Term) (n k at : ℕ) where
+  pub a-end : k ≡ 0 → Next at false 0 ≡ armsStep (armsOf s p n k at)
+  unfolding armsOf stepOf
+  a-end z = simp (z, of-none)
+
+  module _ {r : Head} (z : k ≡ 0 → ⊥) (h : at < length s) (e : r ≡ headOf atArm (getD s at 0)) where
+    pub a-refused : {b : ℕ} → r ≡ Refused b → No b at ≡ armsStep (armsOf s p n k at)
+    unfolding stepOf
+    a-refused {b} i = came _ _ {h = fault b at} (armed s p n k at z h e ∙ simp i) refl
+
+    module _ {f : Row} (i : r ≡ Opens f) {y : Count} (c : y ≡ countOf (second s (at + 1))) where
+      pub a-uncounted : {b : ℕ} → y ≡ Not b → No b (at + 1) ≡ armsStep (armsOf s p n k at)
+      unfolding stepOf then
+      a-uncounted l = came _ _ (armed s p n k at z h e) (simp i (rw (second-not s (at + 1) c l)))
+
+      module _ {m : ℕ} (l : y ≡ Is m) {v : Step} (q : v ≡ termStep (p (n + m) (at + 1 + 1))) where
+        pub a-stop : {b i : ℕ} → v ≡ No b i → No b i ≡ armsStep (armsOf s p n k at)
+        unfolding then
+        a-stop o = came _ _ (armed s p n k at z h e) (simp i (rw (second-is s (at + 1) c l .0) (stops _ _ _ _ _ _ q o)))
+
+        pub a-more : {x g : Step} {to c : ℕ} {b : Bool} → v ≡ Next to b c → g ≡ armsStep (armsOf s p n (k - 1) to) → x ≡ grownOf false c 4 g
+            → x ≡ armsStep (armsOf s p n k at)
+        unfolding then
+        a-more o g u = came _ _ (armed s p n k at z h e) (simp i (rw (second-is s (at + 1) c l .0)
+            (goes _ _ _ _ _ _ q o (λ t o w. of-an-arm _ _ t _ w g u))))
+
+pub ruleset ways = (
+  g-no, j-no, b-no, g-next, j-atom, j-other, b-atoms, b-others, c-none, c-high, c-is, t-none, t-deep, t-refused, t-opened, p-bound, p-unbound,
+  p-stray, p-body, p-stop, p-let, p-match, p-uncounted, p-call, p-con, l-end, l-stop, l-more, a-end, a-none, a-refused, a-uncounted, a-stop,
+  a-more, inl, inr, sums, needs)

@@ -11,13 +11,13 @@ use Rattle.reading.specs.declared.Step.the-variants.{Next, No}
 use Rattle.reading.specs.declared.Count.{Count}
 use Rattle.reading.specs.declared.Count.the-variants.{Is, Not}
 
+-- how many numbers a word can hold; no more source variables does one level of terms bind
+abbrev pub aWord : ℕ
+aWord = 65536
+
 -- numbers up to here are added without wrapping
 abbrev pub small : ℕ
-small = 1048576
-
--- the most source variables that one level of terms can bind, by what a low byte can say: 255 arguments and a name
-abbrev pub levelBinds : ℕ
-levelBinds = 256
+small = 65536 * 65536
 
 -- what was read, or the fault: α says whether a thing is all atoms, and π how many words its passing forms have
 unfoldable pub stepOf : {A : Type 0} → (A → Bool) → (A → ℕ) → Got A → Step

@@ -7,7 +7,7 @@ ghost use Prim.Native.Nat.{_+_, _*_, _≤_, _<_};
 ghost use lib.ListN.{length};
 ghost use Rattle.language.specs.Read.{second, many, armsOf, opened, term, read};
 ghost use Rattle.language.specs.Calls.{checked, measured};
-ghost use Rattle.reading.specs.Steps.{small, levelBinds, termStep, termsStep, armsStep, countOf, wordsOf, grownOf, joinedOf, builtOf, Roomy};
+ghost use Rattle.reading.specs.Steps.{aWord, small, termStep, termsStep, armsStep, countOf, wordsOf, grownOf, joinedOf, builtOf, Roomy};
 ghost use Rattle.reading.specs.Answers.{answerOf, checkedReply, measuredReply};
 
 // The numbers of the refusals. At a head, 4 and 5 come from the table of kinds.
@@ -108,7 +108,7 @@ fn joined(r: Step, all: bool, z: usize) -> Step
 
 // A constructor of m arguments: their carried forms if all are atoms, else a chain over them.
 fn built(r: Step, m: usize) -> Step
-    requires { ⌜ (wordsOf r ≤ small) × (m < 256) × Roomy m r ⌝ }
+    requires { ⌜ (wordsOf r ≤ small) × (m < aWord) × Roomy m r ⌝ }
     ensures { λ x. ⌜ x ≡ builtOf m r ⌝ }
 {
     match r {
@@ -139,7 +139,7 @@ fn second_at(s: &[u16], at: usize) -> Count
 
 // A term, with so many levels of depth left, under so many source variables.
 fn term_at(s: &[u16], at: usize, depth: usize, bound: usize) -> Step
-    requires { ⌜ (length (now s) ≤ 65536) × (bound + levelBinds * depth ≤ small) ⌝ }
+    requires { ⌜ (length (now s) ≤ aWord) × (bound + aWord * depth ≤ small) ⌝ }
     ensures { λ r. ⌜ r ≡ termStep (term (now (s .entry)) depth bound at) ⌝ }
 {
     if s.len() <= at {
@@ -157,7 +157,7 @@ fn term_at(s: &[u16], at: usize, depth: usize, bound: usize) -> Step
 
 // The term whose head, at this place, has this low byte and this row; its parts have so many levels of depth left.
 fn opened_at(s: &[u16], at: usize, depth: usize, bound: usize, low: usize, row: Row) -> Step
-    requires { ⌜ (length (now s) ≤ 65536) × (bound + levelBinds * (depth + 1) ≤ small) × (at < length (now s)) × (low < 256) × (row .binds ≤ 1) ⌝ }
+    requires { ⌜ (length (now s) ≤ aWord) × (bound + aWord * (depth + 1) ≤ small) × (at < length (now s)) × (low < 256) × (row .binds ≤ 1) ⌝ }
     ensures { λ r. ⌜ r ≡ termStep (opened (now (s .entry)) (term (now (s .entry)) depth) bound at low (row .binds) (row .parts)) ⌝ }
 {
     let next = at + 1;
@@ -194,7 +194,7 @@ fn opened_at(s: &[u16], at: usize, depth: usize, bound: usize, low: usize, row: 
 
 // So many terms, one after the other.
 fn terms_at(s: &[u16], at: usize, depth: usize, bound: usize, count: usize) -> Step
-    requires { ⌜ (length (now s) ≤ 65536) × (bound + levelBinds * depth ≤ small) × (count < 256) ⌝ }
+    requires { ⌜ (length (now s) ≤ aWord) × (bound + aWord * depth ≤ small) × (count < aWord) ⌝ }
     ensures { λ r. ⌜ r ≡ termsStep (many (term (now (s .entry)) depth bound) count at) ⌝ }
 {
     if count == 0 {
@@ -208,7 +208,7 @@ fn terms_at(s: &[u16], at: usize, depth: usize, bound: usize, count: usize) -> S
 
 // So many arms, one after the other.
 fn arms_at(s: &[u16], at: usize, depth: usize, bound: usize, count: usize) -> Step
-    requires { ⌜ (length (now s) ≤ 65536) × (bound + levelBinds * (depth + 1) ≤ small) × (count < 256) ⌝ }
+    requires { ⌜ (length (now s) ≤ aWord) × (bound + aWord * (depth + 1) ≤ small) × (count < aWord) ⌝ }
     ensures { λ r. ⌜ r ≡ armsStep (armsOf (now (s .entry)) (term (now (s .entry)) depth) bound count at) ⌝ }
 {
     if count == 0 {

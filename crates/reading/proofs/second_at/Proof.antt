@@ -1,0 +1,21 @@
+use Rattle.reading.proofs.Ways.{ways}
+use Rattle.reading.proofs.second_at.Statement.{statement}
+use Rattle.reading.proofs.second_at.Tie as tie
+
+returns : tie.Need-returns
+returns c = search ways
+
+mul-m : tie.Need-mul-m
+mul-m c = search ways
+
+shared-slice-read-m : tie.Need-shared-slice-read-m
+shared-slice-read-m c = search ways
+
+returns-2 : tie.Need-returns-2
+returns-2 c = search ways
+
+returns-3 : tie.Need-returns-3
+returns-3 c = search ways
+
+pub second-at-spec : {M : Type 1} → statement M
+second-at-spec = tie.close (tie.spec returns mul-m shared-slice-read-m returns-2 returns-3)
