@@ -1,56 +1,25 @@
--- What the code counts is small, so that its sums do not wrap: a count is at most a low byte, a level binds one source variable at most besides its
--- arguments, and the words of what was read are at most seven times the words that it stands in.
+-- What the code counts is small, so that its sums do not wrap: a row's body has one source variable at most besides its arguments, and the words
+-- of what was read are at most seven times the words that it stands in.
 -- Assumes nothing.
-use Prim.Native.Nat.{ℕ, _+_, _*_, _<_, _≤_}
-use mathlib.Core.Path.{_≡_, refl, sym, ap, _∙_}
-use mathlib.Core.Bool.{Bool, true, false, cond}
+use Prim.Native.Nat.{ℕ, _*_, _≤_}
+use mathlib.Core.Path.{_≡_, sym, ap, _∙_}
+use mathlib.Core.Bool.{Bool}
 use mathlib.Core.List.{List}
 use native.Mathlib.Omega.{arith}
-use lib.Dec.{ltb, leb}
-use lib.ListN.{length, getD, drop, length-append, length-drop}
-use borrow.Author.Tests.{leb-true}
-use Rattle.language.specs.Term.{Term, Terms, Arms}
-use Rattle.language.specs.Kinds.{mostArguments, atTerm, headOf}
+use lib.ListN.{length, drop, length-append, length-drop}
+use Rattle.language.specs.Term.{Terms}
+use Rattle.language.specs.Kinds.{atTerm, headOf}
 use Rattle.language.specs.Places.{Held}
-use Rattle.language.specs.Read.{Got, found, fault, second, many, armsOf, term}
+use Rattle.language.specs.Read.{Got, many, armsOf, term}
 use Rattle.language.specs.declared.Row.{Row}
 use Rattle.language.specs.declared.Head.{Head}
 use Rattle.language.specs.declared.Head.the-variants.{Opens}
 use Rattle.sizes.proofs.Promises.{bound, bounds, boundᵃ, leasts}
 use Rattle.trust.proofs.Rows.{Opened, o-var, o-fun, o-rec, o-call, o-let, o-con, o-match, o-arm, passed}
-use Rattle.trust.proofs.Accepted.{Holds, held, left, Good, Goodᵗ, Goodᵃ, term-good, many-good, arms-good}
-use Rattle.reading.specs.Steps.{aWord, small, stepOf, termStep, termsStep, armsStep, countOf, wordsOf, Roomy}
+use Rattle.trust.proofs.Accepted.{Holds, held, left, Goodᵗ, term-good, many-good, arms-good}
+use Rattle.reading.specs.Steps.{aWord, small, stepOf, termStep, termsStep, armsStep, wordsOf, Roomy}
 use Rattle.reading.specs.declared.Step.{Step}
-use Rattle.reading.specs.declared.Step.the-variants.{Next, No}
-use Rattle.reading.specs.declared.Count.{Count}
-use Rattle.reading.specs.declared.Count.the-variants.{Is, Not}
-use Rattle.reading.proofs.Steps.{never}
-
--- what the code's count says of the definition's second word; `a` and `b` are the two tests
-counted : Bool → Bool → ℕ → ℕ → Got ℕ
-counted a b w at = cond a (cond b (found w (at + 1)) (fault 5 at)) (fault 3 at)
-
-not-counted : (a b : Bool) (w at : ℕ) {r : Count} {e : ℕ} → r ≡ countOf (counted a b w at) → r ≡ Not e → counted a b w at ≡ fault e at
-unfolding counted
-not-counted true true w at h k = never cc
-not-counted true false w at h k = cc
-not-counted false b w at h k = cc
-
-is-counted : (a b : Bool) (w at : ℕ) {r : Count} {m : ℕ} → (b ≡ true → w ≤ mostArguments) → r ≡ countOf (counted a b w at) → r ≡ Is m
-    → (counted a b w at ≡ found m (at + 1)) × (m ≤ mostArguments)
-unfolding counted
-is-counted true true w at {m = m} le h k = let e : w ≡ m = cc in (cc, rw e at (le refl))
-is-counted true false w at le h k = never cc
-is-counted false b w at le h k = never cc
-
-module _ (s : List ℕ) (at : ℕ) {r : Count} (h : r ≡ countOf (second s at)) where
-  pub second-not : {e : ℕ} → r ≡ Not e → second s at ≡ fault e at
-  unfolding second counted
-  second-not k = not-counted (ltb at (length s)) (leb (getD s at 0) mostArguments) (getD s at 0) at h k
-
-  pub second-is : {m : ℕ} → r ≡ Is m → (second s at ≡ found m (at + 1)) × (m ≤ mostArguments)
-  unfolding second counted
-  second-is k = is-counted (ltb at (length s)) (leb (getD s at 0) mostArguments) (getD s at 0) at (leb-true (getD s at 0) mostArguments) h k
+use Rattle.reading.specs.declared.Step.the-variants.{Next}
 
 -- a row's body has one source variable at most besides its arguments
 one-bind : {k : ℕ} {f : Row} → Opened k f → f .binds ≤ 1

@@ -8,13 +8,14 @@ use mathlib.Core.List.{List}
 use mathlib.Core.Logic.{_⊎_, inl, inr, ⊎-elim}
 use native.Mathlib.Omega.{arith}
 use native.Mathlib.Numerals.{sub-one}
+use lib.Dec.{ltb}
 use lib.ListN.{length, getD}
 use borrow.Author.Needs.{needs}
 use borrow.Author.Tests.{lt-ltb, le-ltb, lt-leb, le-leb}
 use Rattle.language.specs.Term.{Term, Terms, Arms, cons, arm}
 use Rattle.language.specs.Run.{atom, atoms}
 use Rattle.language.specs.Kinds.{mostArguments, atTerm, atArm, headOf}
-use Rattle.language.specs.Read.{Got, found, fault, then, made, headed, second, many, armsOf, opened, term}
+use Rattle.language.specs.Read.{Got, found, fault, then, made, word, headed, second, many, armsOf, opened, term}
 use Rattle.language.specs.declared.Parts.{Parts}
 use Rattle.language.specs.declared.Parts.the-variants.{Nothing, Body, FunctionAndArguments, BoundAndBody, CountAndArguments, SubjectAndArms, ArityAndBody}
 use Rattle.language.specs.declared.Row.{Row}
@@ -22,13 +23,13 @@ use Rattle.language.specs.declared.Head.{Head}
 use Rattle.language.specs.declared.Head.the-variants.{Refused, Opens}
 use Rattle.sizes.specs.Lengths.{passingLengths}
 use Rattle.sizes.proofs.Lengths.{of-var, of-none}
-use Rattle.reading.specs.Steps.{stepOf, termStep, termsStep, armsStep, countOf, grownOf, joinedOf, builtOf}
+use Rattle.reading.specs.Steps.{stepOf, termStep, termsStep, armsStep, arity, countOf, grownOf, joinedOf, builtOf}
 use Rattle.reading.specs.declared.Step.{Step}
 use Rattle.reading.specs.declared.Step.the-variants.{Next, No}
 use Rattle.reading.specs.declared.Count.{Count}
 use Rattle.reading.specs.declared.Count.the-variants.{Is, Not}
-use Rattle.reading.proofs.Sums.{second-not, second-is, sums}
-use Rattle.reading.proofs.Steps.{came, stops, goes, of-function, of-calling, of-let, of-match, of-an-arm, of-cons, of-construct}
+use Rattle.reading.proofs.Sums.{sums}
+use Rattle.reading.proofs.Steps.{never, came, stops, goes, of-function, of-calling, of-let, of-match, of-an-arm, of-cons, of-construct}
 
 -- what is put together of steps
 module _ {r : Step} {e p : ℕ} (h : r ≡ No e p) where
@@ -67,17 +68,43 @@ module _ {r : Step} {to y : ℕ} {c : Bool} (h : r ≡ Next to c y) where
 
 -- a second word
 module _ (s : List ℕ) (at : ℕ) where
-  pub c-none : length s ≤ at → Not 3 ≡ countOf (second s at)
-  unfolding second
+  pub c-none : length s ≤ at → Not 3 at ≡ countOf (second s at)
+  unfolding second countOf
   c-none h = simp (le-ltb _ _ h)
 
-  pub c-high : at < length s → mostArguments < getD s at 0 → Not 5 ≡ countOf (second s at)
-  unfolding second
+  pub c-high : at < length s → mostArguments < getD s at 0 → Not 5 at ≡ countOf (second s at)
+  unfolding second countOf
   c-high h k = simp (lt-ltb _ _ h, lt-leb _ _ k)
 
-  pub c-is : at < length s → getD s at 0 ≤ mostArguments → Is (getD s at 0) ≡ countOf (second s at)
-  unfolding second
+  pub c-is : at < length s → getD s at 0 ≤ mostArguments → Is (getD s at 0) (at + 1) ≡ countOf (second s at)
+  unfolding second countOf
   c-is h k = simp (lt-ltb _ _ h, le-leb _ _ k)
+
+-- an arm's two words
+module _ (s : List ℕ) (at : ℕ) where
+  pub h-none : length s ≤ at → Not 3 at ≡ countOf (arity s at)
+  unfolding arity countOf
+  h-none h = simp (le-ltb _ _ h)
+
+  module _ (h : at < length s) {r : Head} (e : r ≡ headOf atArm (getD s at 0)) where
+    pub h-refused : {b : ℕ} → r ≡ Refused b → Not b at ≡ countOf (arity s at)
+    unfolding arity countOf
+    h-refused i = simp (lt-ltb _ _ h, ← e, i)
+
+    pub h-second : {f : Row} {x : Count} → r ≡ Opens f → x ≡ countOf (second s (at + 1)) → x ≡ countOf (arity s at)
+    unfolding arity
+    h-second i k = simp (lt-ltb _ _ h, ← e, i) k
+
+-- what a count says of the reading that it answers for
+is-found : (g : Got ℕ) {y : Count} {m to : ℕ} → y ≡ countOf g → y ≡ Is m to → g ≡ found m to
+unfolding countOf
+is-found (found n i) h k = cc
+is-found (fault e p) h k = never cc
+
+is-fault : (g : Got ℕ) {y : Count} {e p : ℕ} → y ≡ countOf g → y ≡ Not e p → g ≡ fault e p
+unfolding countOf
+is-fault (found n i) h k = never cc
+is-fault (fault e p) h k = cc
 
 -- a term, up to its head
 pub t-none : (s : List ℕ) (d n at : ℕ) → length s ≤ at → No 3 at ≡ termStep (term s d n at)
@@ -138,10 +165,10 @@ module _ (s : List ℕ) (p : ℕ → ℕ → Got Term) (n at a o : ℕ) {f : Par
   unfolding opened
   p-match q k l m u = rw q (goes _ _ _ _ _ _ k l (λ t i w. of-match t _ w m u))
 
-  pub p-uncounted : f ≡ CountAndArguments → {y : Count} {b : ℕ} → y ≡ countOf (second s (at + 1)) → y ≡ Not b
-      → No b (at + 1) ≡ termStep (opened s p n at a o f)
+  pub p-uncounted : f ≡ CountAndArguments → {y : Count} {b i : ℕ} → y ≡ countOf (second s (at + 1)) → y ≡ Not b i
+      → No b i ≡ termStep (opened s p n at a o f)
   unfolding opened stepOf then
-  p-uncounted q k l = rw (q, second-not s (at + 1) k l)
+  p-uncounted q k l = rw (q, is-fault _ k l)
 
 module _ (s : List ℕ) (d n at a o : ℕ) {f : Parts} where
   pub p-call : f ≡ FunctionAndArguments → {x y v : Step} {to c : ℕ} {b : Bool} → y ≡ termStep (term s d n (at + 1)) → y ≡ Next to b c
@@ -149,10 +176,10 @@ module _ (s : List ℕ) (d n at a o : ℕ) {f : Parts} where
   unfolding opened
   p-call q k l m u = rw q (goes _ _ _ _ _ _ k l (λ t i w. of-calling _ _ _ _ _ t w m u))
 
-  pub p-con : f ≡ CountAndArguments → {x v : Step} {y : Count} {m : ℕ} → y ≡ countOf (second s (at + 1)) → y ≡ Is m
-      → v ≡ termsStep (many (term s d n) m (at + 1 + 1)) → x ≡ builtOf m v → x ≡ termStep (opened s (term s d) n at a o f)
+  pub p-con : f ≡ CountAndArguments → {x v : Step} {y : Count} {m i : ℕ} → y ≡ countOf (second s (at + 1)) → y ≡ Is m i
+      → v ≡ termsStep (many (term s d n) m i) → x ≡ builtOf m v → x ≡ termStep (opened s (term s d) n at a o f)
   unfolding opened then
-  p-con q k l m u = rw (q, second-is s (at + 1) k l .0) (of-construct _ _ _ _ _ _ m u)
+  p-con q k l m u = rw (q, is-found _ k l) (of-construct _ _ _ _ _ _ m u)
 
 -- a list of terms
 many-more : (p : ℕ → Got Term) (k at : ℕ) → (k ≡ 0 → ⊥) → many p k at ≡ then (p at) (λ t to. made (cons t) (many p (k - 1) to))
@@ -174,45 +201,81 @@ module _ (p : ℕ → Got Term) (k at : ℕ) where
     l-more e i m u = came _ _ (many-more p k at z) (goes _ _ _ _ _ _ e i (λ t o w. of-cons t _ o w m u))
 
 -- arms
-armed : (s : List ℕ) (p : ℕ → ℕ → Got Term) (n k at : ℕ) {r : Head} → (k ≡ 0 → ⊥) → at < length s → r ≡ headOf atArm (getD s at 0)
-    → armsOf s p n k at ≡ headed r at (λ f. then (second s (at + 1)) (λ m to. then (p (n + m) to) (λ b past. made
-    (arm (getD s at 0 % 256) m b) (armsOf s p n (k - 1) past))))
-unfolding armsOf
-armed s p n zero at z h e = absurd (z refl)
-armed s p n (suc k) at z h e = simp (sub-one, lt-ltb at (length s) h, e)
+module _ (s : List ℕ) (at : ℕ) (f : ℕ → ℕ → Got Arms) where
+  arity-then : word s at (λ w. headed (headOf atArm w) at (λ r. then (second s (at + 1)) f)) ≡ then (arity s at) f
+  unfolding arity then
+  arity-then = go (ltb at (length s)) (headOf atArm (getD s at 0))
+    where
+      go : (b : Bool) (h : Head) → cond b (headed h at (λ r. then (second s (at + 1)) f)) (fault 3 at)
+          ≡ then (cond b (headed h at (λ r. second s (at + 1))) (fault 3 at)) f
+      go true (Refused e) = refl
+      go true (Opens r) = refl
+      go false h = refl
 
-pub a-none : (s : List ℕ) (p : ℕ → ℕ → Got Term) (n k at : ℕ) → (k ≡ 0 → ⊥) → length s ≤ at → No 3 at ≡ armsStep (armsOf s p n k at)
-unfolding stepOf armsOf
-a-none s p n zero at z h = absurd (z refl)
-a-none s p n (suc k) at z h = simp (le-ltb _ _ h)
+armed : (s : List ℕ) (p : ℕ → ℕ → Got Term) (n k at : ℕ) → (k ≡ 0 → ⊥)
+    → armsOf s p n k at ≡ then (arity s at) (λ m to. then (p (n + m) to) (λ b past. made (arm (getD s at 0 % 256) m b) (armsOf s p n (k - 1) past)))
+unfolding armsOf
+armed s p n zero at z = absurd (z refl)
+armed s p n (suc k) at z = simp sub-one (arity-then s at _)
 
 module _ (s : List ℕ) (p : ℕ → ℕ → Got Term) (n k at : ℕ) where
   pub a-end : k ≡ 0 → Next at false 0 ≡ armsStep (armsOf s p n k at)
   unfolding armsOf stepOf
   a-end z = simp (z, of-none)
 
-  module _ {r : Head} (z : k ≡ 0 → ⊥) (h : at < length s) (e : r ≡ headOf atArm (getD s at 0)) where
-    pub a-refused : {b : ℕ} → r ≡ Refused b → No b at ≡ armsStep (armsOf s p n k at)
-    unfolding stepOf
-    a-refused {b} i = came _ _ {h = fault b at} (armed s p n k at z h e ∙ simp i) refl
+  module _ (z : k ≡ 0 → ⊥) {y : Count} (c : y ≡ countOf (arity s at)) where
+    pub a-refused : {b i : ℕ} → y ≡ Not b i → No b i ≡ armsStep (armsOf s p n k at)
+    unfolding stepOf then
+    a-refused l = came _ _ (armed s p n k at z) (rw (is-fault _ c l))
 
-    module _ {f : Row} (i : r ≡ Opens f) {y : Count} (c : y ≡ countOf (second s (at + 1))) where
-      pub a-uncounted : {b : ℕ} → y ≡ Not b → No b (at + 1) ≡ armsStep (armsOf s p n k at)
-      unfolding stepOf then
-      a-uncounted l = came _ _ (armed s p n k at z h e) (simp i (rw (second-not s (at + 1) c l)))
+    module _ {m i : ℕ} (l : y ≡ Is m i) {v : Step} (q : v ≡ termStep (p (n + m) i)) where
+      pub a-stop : {b i : ℕ} → v ≡ No b i → No b i ≡ armsStep (armsOf s p n k at)
+      unfolding then
+      a-stop o = came _ _ (armed s p n k at z) (rw (is-found _ c l) (stops _ _ _ _ _ _ q o))
 
-      module _ {m : ℕ} (l : y ≡ Is m) {v : Step} (q : v ≡ termStep (p (n + m) (at + 1 + 1))) where
-        pub a-stop : {b i : ℕ} → v ≡ No b i → No b i ≡ armsStep (armsOf s p n k at)
-        unfolding then
-        a-stop o = came _ _ (armed s p n k at z h e) (simp i (rw (second-is s (at + 1) c l .0) (stops _ _ _ _ _ _ q o)))
-
-        pub a-more : {x g : Step} {to c : ℕ} {b : Bool} → v ≡ Next to b c → g ≡ armsStep (armsOf s p n (k - 1) to) → x ≡ grownOf false c 4 g
-            → x ≡ armsStep (armsOf s p n k at)
-        unfolding then
-        a-more o g u = came _ _ (armed s p n k at z h e) (simp i (rw (second-is s (at + 1) c l .0)
-            (goes _ _ _ _ _ _ q o (λ t o w. of-an-arm _ _ t _ w g u))))
+      pub a-more : {x g : Step} {to c : ℕ} {b : Bool} → v ≡ Next to b c → g ≡ armsStep (armsOf s p n (k - 1) to) → x ≡ grownOf false c 4 g
+          → x ≡ armsStep (armsOf s p n k at)
+      unfolding then
+      a-more o g u = came _ _ (armed s p n k at z) (rw (is-found _ c l) (goes _ _ _ _ _ _ q o (λ t o w. of-an-arm _ _ t _ w g u)))
 
 pub ruleset ways = (
-  g-no, j-no, b-no, g-next, j-atom, j-other, b-atoms, b-others, c-none, c-high, c-is, t-none, t-deep, t-refused, t-opened, p-bound, p-unbound,
-  p-stray, p-body, p-stop, p-let, p-match, p-uncounted, p-call, p-con, l-end, l-stop, l-more, a-end, a-none, a-refused, a-uncounted, a-stop,
-  a-more, inl, inr, sums, needs)
+  g-no,
+  j-no,
+  b-no,
+  g-next,
+  j-atom,
+  j-other,
+  b-atoms,
+  b-others,
+  c-none,
+  c-high,
+  c-is,
+  h-none,
+  h-refused,
+  h-second,
+  t-none,
+  t-deep,
+  t-refused,
+  t-opened,
+  p-bound,
+  p-unbound,
+  p-stray,
+  p-body,
+  p-stop,
+  p-let,
+  p-match,
+  p-uncounted,
+  p-call,
+  p-con,
+  l-end,
+  l-stop,
+  l-more,
+  a-end,
+  a-refused,
+  a-stop,
+  a-more,
+  inl,
+  inr,
+  sums,
+  needs,
+)

@@ -2,9 +2,11 @@
 -- how many words its passing forms have.
 use Prim.Native.Nat.{ℕ, _+_, _-_, _*_, _≤_}
 use mathlib.Core.Bool.{Bool, true, false, cond, _&&_}
+use mathlib.Core.List.{List}
 use Rattle.language.specs.Term.{Term, Terms, Arms}
 use Rattle.language.specs.Run.{atom, atoms}
-use Rattle.language.specs.Read.{Got, found, fault}
+use Rattle.language.specs.Kinds.{atArm, headOf}
+use Rattle.language.specs.Read.{Got, found, fault, word, headed, second}
 use Rattle.sizes.specs.Lengths.{passingLength, passingLengths, armLengths}
 use Rattle.reading.specs.declared.Step.{Step}
 use Rattle.reading.specs.declared.Step.the-variants.{Next, No}
@@ -33,10 +35,14 @@ termsStep g = stepOf atoms passingLengths g
 abbrev pub armsStep : Got Arms → Step
 armsStep g = stepOf (λ _. false) armLengths g
 
--- a second word, whose place is known
-abbrev pub countOf : Got ℕ → Count
-countOf (found m to) = Is m
-countOf (fault e p) = Not e
+-- an arm's two words: the second, where the first is an arm's head
+unfoldable pub arity : List ℕ → ℕ → Got ℕ
+arity s at = word s at (λ w. headed (headOf atArm w) at (λ r. second s (at + 1)))
+
+-- a count that was read, or the fault
+unfoldable pub countOf : Got ℕ → Count
+countOf (found m to) = Is m to
+countOf (fault e p) = Not e p
 
 -- the words that a step counts
 unfoldable pub wordsOf : Step → ℕ

@@ -7,7 +7,7 @@ ghost use Prim.Native.Nat.{_+_, _*_, _≤_, _<_};
 ghost use lib.ListN.{length};
 ghost use Rattle.language.specs.Read.{second, many, armsOf, opened, term, read};
 ghost use Rattle.language.specs.Calls.{checked, measured};
-ghost use Rattle.reading.specs.Steps.{aWord, small, termStep, termsStep, armsStep, countOf, wordsOf, grownOf, joinedOf, builtOf, Roomy};
+ghost use Rattle.reading.specs.Steps.{aWord, small, termStep, termsStep, armsStep, arity, countOf, wordsOf, grownOf, joinedOf, builtOf, Roomy};
 ghost use Rattle.reading.specs.Answers.{answerOf, checkedReply, measuredReply};
 
 // The numbers of the refusals. At a head, 4 and 5 come from the table of kinds.
@@ -54,10 +54,10 @@ enum Step {
     No(u8, usize),
 }
 
-// What reading a second word gives: a count, or a refusal's number.
+// What reading a second word gives: a count and the place after it; or a refusal's number and the place of the word tested.
 enum Count {
-    Is(u16),
-    Not(u8),
+    Is(u16, usize),
+    Not(u8, usize),
 }
 
 // What reading a rule gives: the words of its image; or a refusal's number and the place of the word tested.
@@ -128,13 +128,26 @@ fn second_at(s: &[u16], at: usize) -> Count
     ensures { λ r. ⌜ r ≡ countOf (second (now (s .entry)) at) ⌝ }
 {
     if s.len() <= at {
-        return Count::Not(NONE_LEFT);
+        return Count::Not(NONE_LEFT, at);
     }
     let m = s[at];
     if language::MOST_ARGUMENTS < m {
-        return Count::Not(OUT_OF_RANGE);
+        return Count::Not(OUT_OF_RANGE, at);
     }
-    Count::Is(m)
+    Count::Is(m, at + 1)
+}
+
+// An arm's two words: its arity.
+fn arity_at(s: &[u16], at: usize) -> Count
+    ensures { λ r. ⌜ r ≡ countOf (arity (now (s .entry)) at) ⌝ }
+{
+    if s.len() <= at {
+        return Count::Not(NONE_LEFT, at);
+    }
+    match language::look(language::AT_ARM, s[at]) {
+        Head::Refused(e) => Count::Not(e, at),
+        Head::Opens(_) => second_at(s, at + 1),
+    }
 }
 
 // A term, with so many levels of depth left, under so many source variables.
@@ -171,18 +184,33 @@ fn opened_at(s: &[u16], at: usize, depth: usize, bound: usize, low: usize, row: 
                 Step::No(UNBOUND, at)
             }
         }
-        Parts::Body => grown(term_at(s, next, depth, bound + low + binds), true, 0, FUNCTION_WORDS),
+        Parts::Body => grown(
+            term_at(s, next, depth, bound + low + binds),
+            true,
+            0,
+            FUNCTION_WORDS,
+        ),
         Parts::FunctionAndArguments => match term_at(s, next, depth, bound) {
             Step::No(e, p) => Step::No(e, p),
-            Step::Next(to, _, z) => grown(terms_at(s, to, depth, bound, low), false, z, ARGUMENT_WORDS * low + CALL_WORDS),
+            Step::Next(to, _, z) => grown(
+                terms_at(s, to, depth, bound, low),
+                false,
+                z,
+                ARGUMENT_WORDS * low + CALL_WORDS,
+            ),
         },
         Parts::BoundAndBody => match term_at(s, next, depth, bound) {
             Step::No(e, p) => Step::No(e, p),
-            Step::Next(to, _, z) => grown(term_at(s, to, depth, bound + binds), false, z, LET_WORDS),
+            Step::Next(to, _, z) => grown(
+                term_at(s, to, depth, bound + binds),
+                false,
+                z,
+                LET_WORDS,
+            ),
         },
         Parts::CountAndArguments => match second_at(s, next) {
-            Count::Not(e) => Step::No(e, next),
-            Count::Is(m) => built(terms_at(s, next + 1, depth, bound, m as usize), m as usize),
+            Count::Not(e, p) => Step::No(e, p),
+            Count::Is(m, to) => built(terms_at(s, to, depth, bound, m as usize), m as usize),
         },
         Parts::SubjectAndArms => match term_at(s, next, depth, bound) {
             Step::No(e, p) => Step::No(e, p),
@@ -214,18 +242,16 @@ fn arms_at(s: &[u16], at: usize, depth: usize, bound: usize, count: usize) -> St
     if count == 0 {
         return Step::Next(at, false, 0);
     }
-    if s.len() <= at {
-        return Step::No(NONE_LEFT, at);
-    }
-    if let Head::Refused(e) = language::look(language::AT_ARM, s[at]) {
-        return Step::No(e, at);
-    }
-    let next = at + 1;
-    match second_at(s, next) {
-        Count::Not(e) => Step::No(e, next),
-        Count::Is(m) => match term_at(s, next + 1, depth, bound + m as usize) {
+    match arity_at(s, at) {
+        Count::Not(e, p) => Step::No(e, p),
+        Count::Is(m, body) => match term_at(s, body, depth, bound + m as usize) {
             Step::No(e, p) => Step::No(e, p),
-            Step::Next(to, _, z) => grown(arms_at(s, to, depth, bound, count - 1), false, z, ARM_WORDS),
+            Step::Next(to, _, z) => grown(
+                arms_at(s, to, depth, bound, count - 1),
+                false,
+                z,
+                ARM_WORDS,
+            ),
         },
     }
 }

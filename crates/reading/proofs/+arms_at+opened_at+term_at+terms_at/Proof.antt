@@ -14,6 +14,7 @@ use Rattle.reading.proofs.terms_at.Reads as terms-at
 use Rattle.reading.proofs.terms_at.Kinds as terms-at-kinds
 use Rattle.reading.proofs.+arms_at+opened_at+term_at+terms_at.Lts-terms_at as terms-at-lts
 use Rattle.language.proofs.look.Reads as look-reads
+use Rattle.reading.proofs.arity_at.Reads as arity-at-reads
 use Rattle.reading.proofs.built.Reads as built-reads
 use Rattle.reading.proofs.grown.Reads as grown-reads
 use Rattle.reading.proofs.joined.Reads as joined-reads
@@ -62,7 +63,7 @@ abbrev terms-at-below : ℕ → In 1 terms-at-kinds.ps
 terms-at-below t = and 1 terms-at-kinds.ps (falls 1 terms-at-kinds.ps _<_ μ-terms-at t) terms-at.Pre
 
 abbrev arms-at-calls : ℕ → arms-at-lts.Claims
-arms-at-calls t = (look-reads.Asked, look-reads.Learnt, second-at-reads.Asked, second-at-reads.Learnt, term-at-below t, term-at.Post, arms-at-below t, arms-at.Post, grown-reads.Asked, grown-reads.Learnt)
+arms-at-calls t = (arity-at-reads.Asked, arity-at-reads.Learnt, term-at-below t, term-at.Post, arms-at-below t, arms-at.Post, grown-reads.Asked, grown-reads.Learnt)
 
 abbrev opened-at-calls : ℕ → opened-at-lts.Claims
 opened-at-calls t = (term-at-below t, term-at.Post, grown-reads.Asked, grown-reads.Learnt, terms-at-below t, terms-at.Post, second-at-reads.Asked, second-at-reads.Learnt, built-reads.Asked, built-reads.Learnt, arms-at-below t, arms-at.Post)
@@ -77,21 +78,19 @@ pub +arms-at+opened-at+term-at+terms-at-spec : {M : Type 1} → statement M
 +arms-at+opened-at+term-at+terms-at-spec =
     close μ-arms-at μ-opened-at μ-term-at μ-terms-at
     (λ t. arms-at-lts.spec (arms-at-calls t) (arms-at-at t) arms-at.Post
-    (λ c. search ways) (λ c. search ways) (λ c. search ways) (λ c. search ways) (λ c κs. search ways) (λ c. search ways)
-    (λ c. search ways) (λ c. search ways) (λ c. search ways) (λ c κs. search ways) (λ c. search ways) (λ c. search ways)
-    (λ c. search ways) (λ c. search ways) (λ c. search ways) (λ c κs. search ways) (λ c. search ways) (λ c. search ways)
-    (λ c. search ways) (λ c κs. search ways) (λ c κs. search ways) (λ c. search ways) (λ c. search ways) (λ c. search ways))
+    (λ c. search ways) (λ c κs. search ways) (λ c. search ways) (λ c. search ways) (λ c. search ways) (λ c. search ways)
+    (λ c κs. search ways) (λ c. search ways) (λ c. search ways) (λ c. search ways) (λ c κs. search ways)
+    (λ c κs. search ways) (λ c. search ways) (λ c. search ways) (λ c. search ways))
     (λ t. opened-at-lts.spec (opened-at-calls t) (opened-at-at t) opened-at.Post
     (λ c. search ways) (λ c. search ways) (λ c. search ways) (λ c. search ways) (λ c. search ways) (λ c κs. search ways)
     (λ c κs. search ways) (λ c. search ways) (λ c κs. search ways) (λ c. search ways) (λ c. search ways)
     (λ c κs. search ways) (λ c. search ways) (λ c. search ways) (λ c κs. search ways) (λ c. search ways)
     (λ c κs. search ways) (λ c. search ways) (λ c. search ways) (λ c. search ways) (λ c κs. search ways)
     (λ c κs. search ways) (λ c. search ways) (λ c κs. search ways) (λ c. search ways) (λ c. search ways) (λ c. search ways)
-    (λ c. search ways) (λ c κs. search ways) (λ c. search ways) (λ c κs. search ways) (λ c. search ways)
-    (λ c κs. search ways) (λ c. search ways) (λ c. search ways) (λ c κs. search ways) (λ c κs. search ways)
+    (λ c κs. search ways) (λ c. search ways) (λ c κs. search ways) (λ c. search ways) (λ c κs. search ways)
+    (λ c. search ways) (λ c. search ways) (λ c κs. search ways) (λ c κs. search ways) (λ c. search ways) (λ c. search ways)
     (λ c. search ways) (λ c. search ways) (λ c. search ways) (λ c. search ways) (λ c. search ways) (λ c. search ways)
-    (λ c. search ways) (λ c. search ways) (λ c. search ways) (λ c. search ways) (λ c. search ways) (λ c. search ways)
-    (λ c. search ways))
+    (λ c. search ways) (λ c. search ways) (λ c. search ways) (λ c. search ways) (λ c. search ways))
     (λ t. term-at-lts.spec (term-at-calls t) (term-at-at t) term-at.Post
     (λ c. search ways) (λ c. search ways) (λ c. search ways) (λ c. search ways) (λ c κs. search ways) (λ c. search ways)
     (λ c. search ways) (λ c. search ways) (λ c. search ways)

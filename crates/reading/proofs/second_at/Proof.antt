@@ -14,8 +14,11 @@ shared-slice-read-m c = search ways
 returns-2 : tie.Need-returns-2
 returns-2 c = search ways
 
+add-t4 : tie.Need-add-t4
+add-t4 c = search ways
+
 returns-3 : tie.Need-returns-3
 returns-3 c = search ways
 
 pub second-at-spec : {M : Type 1} → statement M
-second-at-spec = tie.close (tie.spec returns mul-m shared-slice-read-m returns-2 returns-3)
+second-at-spec = tie.close (tie.spec returns mul-m shared-slice-read-m returns-2 add-t4 returns-3)
