@@ -62,9 +62,12 @@ module _ (s : List ℕ) where
     unfolding read answerOf
     r-words k l = simp (ne-eqb _ _ z, le-ltb _ _ m) (went _ _ h k (λ t q. simp (le-ltb _ _ l) (ap answer.Words (omega (arith, of-image t)))))
 
-    pub r-fits : {to c : ℕ} {b : Bool} → y ≡ Next to b c → Fits w64 (c + 3)
-    unfolding wordsOf
-    r-fits k = record { fits = omega (arith, term-small s deepest 0 0 h, ap wordsOf k) }
+
+-- the words of an image do not wrap
+pub r-fits : (s : List ℕ) (d n at : ℕ) {y : Step} {to c : ℕ} {b : Bool} → length s ≤ mostWords → y ≡ termStep (term s d n at) → y ≡ Next to b c
+    → Fits w64 (c + 3)
+unfolding wordsOf
+r-fits s d n at m h k = record { fits = omega (arith, term-small s d n at h, ap wordsOf k) }
 
 -- what the two calls make of the answer
 pub c-refused : (r : Reading) {a : Answer} {e p : ℕ} → a ≡ answerOf r → a ≡ answer.No e p → checkedReply (check.Refused e) ≡ checked r
