@@ -7,7 +7,7 @@ ghost use Prim.Native.Nat.{_+_, _*_, _≤_, _<_};
 ghost use lib.ListN.{length};
 ghost use Rattle.language.specs.Read.{second, many, armsOf, opened, term, read};
 ghost use Rattle.language.specs.Calls.{checked, measured};
-ghost use Rattle.reading.specs.Steps.{aWord, small, termStep, termsStep, armsStep, arity, countOf, wordsOf, grownOf, joinedOf, builtOf, Roomy};
+ghost use Rattle.reading.specs.Steps.{aWord, small, termStep, termsStep, armsStep, arity, closed, countOf, wordsOf, grownOf, joinedOf, builtOf, Roomy};
 ghost use Rattle.reading.specs.Answers.{answerOf, checkedReply, measuredReply};
 
 // The numbers of the refusals. At a head, 4 and 5 come from the table of kinds.
@@ -256,17 +256,51 @@ fn arms_at(s: &[u16], at: usize, depth: usize, bound: usize, count: usize) -> St
     }
 }
 
+// The closed term that stands at a place of a table, after the tests of the table's length.
+fn closed_at(s: &[u16], at: usize) -> Step
+    ensures { λ r. ⌜ r ≡ termStep (closed (now (s .entry)) at) ⌝ }
+{
+    if s.len() == 0 {
+        return Step::No(NO_WORDS, 0);
+    }
+    if language::MOST_WORDS < s.len() {
+        return Step::No(TOO_MANY_WORDS, 0);
+    }
+    term_at(s, at, language::DEEPEST, 0)
+}
+
+// A reading place: the lent table, and the place of its next word.
+struct Reader<'a> {
+    table: &'a [u16],
+    next: usize,
+}
+
+// The place of a table's first word.
+fn start<'a>(table: &'a [u16]) -> Reader<'a>
+    ensures { λ r. ⌜ (r .table ≡ table .entry) × (r .next ≡ 0) ⌝ }
+{
+    Reader { table, next: 0 }
+}
+
+// The closed term at the reading place.
+fn closed_here<'a>(r: Reader<'a>) -> Step
+    ensures { λ x. ⌜ x ≡ termStep (closed (now (r .entry .table)) (r .entry .next)) ⌝ }
+{
+    closed_at(r.table, r.next)
+}
+
+// The closed term that a table starts with.
+fn closed_first(s: &[u16]) -> Step
+    ensures { λ x. ⌜ x ≡ termStep (closed (now (s .entry)) 0) ⌝ }
+{
+    closed_here(start(s))
+}
+
 // What a sequence of words comes to as a rule.
 fn judge(s: &[u16]) -> Answer
     ensures { λ r. ⌜ r ≡ answerOf (read (now (s .entry))) ⌝ }
 {
-    if s.len() == 0 {
-        return Answer::No(NO_WORDS, 0);
-    }
-    if language::MOST_WORDS < s.len() {
-        return Answer::No(TOO_MANY_WORDS, 0);
-    }
-    match term_at(s, 0, language::DEEPEST, 0) {
+    match closed_first(s) {
         Step::No(e, p) => Answer::No(e, p),
         Step::Next(to, _, z) => {
             if to < s.len() {

@@ -1,0 +1,18 @@
+use Rattle.reading.proofs.Answers.{answers}
+use Rattle.reading.proofs.closed_at.Statement.{statement}
+use Rattle.reading.proofs.closed_at.Tie as tie
+
+returns : tie.Need-returns
+returns c = search answers
+
+returns-2 : tie.Need-returns-2
+returns-2 c = search answers
+
+term-at-requires : tie.Need-term-at-requires
+term-at-requires c κs = search answers
+
+returns-3 : tie.Need-returns-3
+returns-3 c = search answers
+
+pub closed-at-spec : {M : Type 1} → statement M
+closed-at-spec = tie.close (tie.spec returns returns-2 term-at-requires returns-3)
