@@ -17,7 +17,7 @@ use Rattle.language.specs.Read.{Got, found, fault, then, term, Reading, accepte
 use Rattle.language.specs.Calls.{checked, measured}
 use Rattle.sizes.specs.Lengths.{passingLength, imageLength}
 use Rattle.sizes.proofs.Lengths.{of-image}
-use Rattle.reading.specs.Steps.{stepOf, termStep, closed, wordsOf}
+use Rattle.reading.specs.Steps.{imageWords, stepOf, termStep, closed, wordsOf}
 use Rattle.reading.specs.Answers.{answerOf, checkedReply, measuredReply}
 use Rattle.reading.specs.declared.Step.{Step}
 use Rattle.reading.specs.declared.Step.the-variants.{Next, No}
@@ -87,12 +87,12 @@ module _ (s : List ℕ) {y : Step} (h : y ≡ termStep (closed s 0)) where
   unfolding answerOf ended
   r-left k l = rw (read-closed s) (went _ _ h k (λ t q. simp (lt-ltb _ _ l)))
 
-  pub r-words : {to c : ℕ} {b : Bool} → y ≡ Next to b c → length s ≤ to → answer.Words (c + 3) ≡ answerOf (read s)
+  pub r-words : {to c : ℕ} {b : Bool} → y ≡ Next to b c → length s ≤ to → answer.Words (c + imageWords) ≡ answerOf (read s)
   unfolding answerOf ended
   r-words k l = rw (read-closed s) (went _ _ h k (λ t q. simp (le-ltb _ _ l) (ap answer.Words (omega (arith, of-image t)))))
 
   -- the words of the image do not wrap
-  pub r-fits : {to c : ℕ} {b : Bool} → y ≡ Next to b c → Fits w64 (c + 3)
+  pub r-fits : {to c : ℕ} {b : Bool} → y ≡ Next to b c → Fits w64 (c + imageWords)
   unfolding wordsOf
   r-fits k = record { fits = omega (arith, closed-small s 0 h, ap wordsOf k) }
 

@@ -11,8 +11,8 @@ use Rattle.language.specs.Run.{atom, atoms}
 use Rattle.language.specs.Read.{Got, found, fault, then, made, many, term}
 use Rattle.sizes.specs.Lengths.{passingLength, passingLengths, armLengths}
 use Rattle.sizes.proofs.Lengths.{by-test, of-fun, of-call, of-bind, of-cases, of-arm, of-con, of-con-unfinished}
-use Rattle.trust.proofs.Accepted.{holds-found, many-good, term-good}
-use Rattle.reading.specs.Steps.{stepOf, termStep, termsStep, armsStep, grownOf, joinedOf, builtOf}
+use Rattle.trust.proofs.Accepted.{Holds, held, left, Goodᵗ, many-good, term-good}
+use Rattle.reading.specs.Steps.{functionWords, callWords, letWords, constructorWords, matchWords, armWords, savedWords, chainLength, stepOf, termStep, termsStep, armsStep, grownOf, joinedOf, builtOf}
 use Rattle.reading.specs.declared.Step.{Step}
 use Rattle.reading.specs.declared.Step.the-variants.{Next, No}
 
@@ -39,57 +39,53 @@ goes α π β ρ (fault n at) f h k next = never cc
 
 -- a larger thing, so many words longer
 grows : {A B : Type 0} (α : A → Bool) (π : A → ℕ) (β : B → Bool) (ρ : B → ℕ) (f : A → B) (g : Got A) {r x : Step} (b : Bool) (z k : ℕ)
-    → r ≡ stepOf α π g → ((a : A) → β (f a) ≡ b) → ((a : A) (to : ℕ) → g ≡ found a to → ρ (f a) ≡ π a + z + k) → x ≡ grownOf b z k r
-    → x ≡ stepOf β ρ (made f g)
+    → r ≡ stepOf α π g → ((a : A) → β (f a) ≡ b) → ((a : A) → ρ (f a) ≡ π a + z + k) → x ≡ grownOf b z k r → x ≡ stepOf β ρ (made f g)
 unfolding stepOf made grownOf
-grows α π β ρ f (found a at) b z k h p q e = e ∙ ap (grownOf b z k) h ∙ simp (p a, q a at refl)
+grows α π β ρ f (found a at) b z k h p q e = e ∙ ap (grownOf b z k) h ∙ simp (p a, q a)
 grows α π β ρ f (fault n at) b z k h p q e = e ∙ ap (grownOf b z k) h
 
--- reading k terms gives k terms
-sized : (s : List ℕ) (d n k at : ℕ) (ts : Terms) (to : ℕ) → many (term s d n) k at ≡ found ts to → size ts ≡ k
-sized s d n k at ts to e = holds-found (many-good s d (term s d) (term-good s d) n k at) e .counted
-
--- what each form adds to the words of its parts' passing forms
-pub of-function : (o a : ℕ) (g : Got Term) {r x : Step} → r ≡ termStep g → x ≡ grownOf true 0 6 r → x ≡ termStep (made (fun o a) g)
+-- what each form adds to its parts' words
+pub of-function : (o a : ℕ) (g : Got Term) {r x : Step} → r ≡ termStep g → x ≡ grownOf true 0 functionWords r → x ≡ termStep (made (fun o a) g)
 unfolding atom
-of-function o a g h e = grows _ _ _ _ (fun o a) g _ _ _ h (λ b. refl) (λ b to q. omega (arith, of-fun o a b)) e
+of-function o a g h e = grows _ _ _ _ (fun o a) g _ _ _ h (λ b. refl) (λ b. omega (arith, of-fun o a b)) e
 
-pub of-calling : (s : List ℕ) (d n k at : ℕ) (f : Term) {z : ℕ} {r x : Step} → passingLength f ≡ z → r ≡ termsStep (many (term s d n) k at)
-    → x ≡ grownOf false z (3 * k + 6) r → x ≡ termStep (made (call f) (many (term s d n) k at))
-unfolding atom
-of-calling s d n k at f q h e =
-    grows _ _ _ _ (call f) (many (term s d n) k at) _ _ _ h (λ ps. refl) (λ ps to w. omega (arith, of-call f ps, sized s d n k at ps to w)) e
+pub of-calling : (f : Term) (g : Got Terms) {z : ℕ} {r x : Step} → passingLength f ≡ z → r ≡ termsStep g → x ≡ grownOf false z callWords r
+    → x ≡ termStep (made (call f) g)
+unfolding atom chainLength
+of-calling f g q h e = grows _ _ _ _ (call f) g _ _ _ h (λ ps. refl) (λ ps. omega (arith, of-call f ps)) e
 
-pub of-let : (m : Term) (g : Got Term) {z : ℕ} {r x : Step} → passingLength m ≡ z → r ≡ termStep g → x ≡ grownOf false z 7 r
+pub of-let : (m : Term) (g : Got Term) {z : ℕ} {r x : Step} → passingLength m ≡ z → r ≡ termStep g → x ≡ grownOf false z letWords r
     → x ≡ termStep (made (bind m) g)
 unfolding atom
-of-let m g q h e = grows _ _ _ _ (bind m) g _ _ _ h (λ b. refl) (λ b to w. omega (arith, of-bind m b)) e
+of-let m g q h e = grows _ _ _ _ (bind m) g _ _ _ h (λ b. refl) (λ b. omega (arith, of-bind m b)) e
 
-pub of-match : (m : Term) (g : Got Arms) {z : ℕ} {r x : Step} → passingLength m ≡ z → r ≡ armsStep g → x ≡ grownOf false z 5 r
+pub of-match : (m : Term) (g : Got Arms) {z : ℕ} {r x : Step} → passingLength m ≡ z → r ≡ armsStep g → x ≡ grownOf false z matchWords r
     → x ≡ termStep (made (cases m) g)
 unfolding atom
-of-match m g q h e = grows _ _ _ _ (cases m) g _ _ _ h (λ ps. refl) (λ ps to w. omega (arith, of-cases m ps)) e
+of-match m g q h e = grows _ _ _ _ (cases m) g _ _ _ h (λ ps. refl) (λ ps. omega (arith, of-cases m ps)) e
 
-pub of-an-arm : (t n : ℕ) (b : Term) (g : Got Arms) {z : ℕ} {r x : Step} → passingLength b ≡ z → r ≡ armsStep g → x ≡ grownOf false z 4 r
+pub of-an-arm : (t n : ℕ) (b : Term) (g : Got Arms) {z : ℕ} {r x : Step} → passingLength b ≡ z → r ≡ armsStep g → x ≡ grownOf false z armWords r
     → x ≡ armsStep (made (arm t n b) g)
-of-an-arm t n b g q h e = grows _ _ _ _ (arm t n b) g _ _ _ h (λ ps. refl) (λ ps to w. omega (arith, of-arm t n b ps)) e
+of-an-arm t n b g q h e = grows _ _ _ _ (arm t n b) g _ _ _ h (λ ps. refl) (λ ps. omega (arith, of-arm t n b ps)) e
 
 pub of-cons : (t : Term) (g : Got Terms) {z : ℕ} {b : Bool} {r x : Step} → atom t ≡ b → passingLength t ≡ z → r ≡ termsStep g → x ≡ joinedOf b z r
     → x ≡ termsStep (made (cons t) g)
-unfolding stepOf made joinedOf atom passingLengths
+unfolding stepOf made joinedOf atom passingLengths chainLength size
 of-cons t (found ts at) {z = z} {b = b} p q h e = e ∙ ap (joinedOf b z) h ∙ simp (← p, ← q) (ap (Next at (atom t && atoms ts)) (omega arith))
 of-cons t (fault n at) {z = z} {b = b} p q h e = e ∙ ap (joinedOf b z) h
 
 -- a constructor's words by the test whether its arguments are atoms
-con-words : (a m : ℕ) (ts : Terms) → size ts ≡ m → cond (atoms ts) (passingLengths ts + 5 - 3 * m) (passingLengths ts + 3 * m + 5) ≡ passingLength (con a ts)
-con-words a m ts e = by-test (atoms ts) (λ q. simp q (omega (arith, of-con a ts q))) (λ q. simp q (omega (arith, of-con-unfinished a ts q)))
+con-words : (a : ℕ) (ts : Terms)
+    → cond (atoms ts) (chainLength ts + constructorWords - savedWords * size ts) (chainLength ts + constructorWords) ≡ passingLength (con a ts)
+unfolding chainLength
+con-words a ts = by-test (atoms ts) (λ q. simp q (omega (arith, of-con a ts q))) (λ q. simp q (omega (arith, of-con-unfinished a ts q)))
 
-builds : (a m : ℕ) (g : Got Terms) → ((ts : Terms) (to : ℕ) → g ≡ found ts to → size ts ≡ m) → {r x : Step} → r ≡ termsStep g → x ≡ builtOf m r
-    → x ≡ termStep (made (con a) g)
-unfolding stepOf made builtOf atom
-builds a m (found ts to) z h e = e ∙ ap (builtOf m) h ∙ ap (Next to (atoms ts)) (con-words a m ts (z ts to refl))
-builds a m (fault n p) z h e = e ∙ ap (builtOf m) h
-
+-- reading m terms gives m terms
 pub of-construct : (s : List ℕ) (d n m at a : ℕ) {r x : Step} → r ≡ termsStep (many (term s d n) m at) → x ≡ builtOf m r
     → x ≡ termStep (made (con a) (many (term s d n) m at))
-of-construct s d n m at a h e = builds a m (many (term s d n) m at) (sized s d n m at) h e
+unfolding stepOf made builtOf atom
+of-construct s d n m at a h e = go (many-good s d (term s d) (term-good s d) n m at) h e
+  where
+    go : {g : Got Terms} → Holds (Goodᵗ s d n m at) g → {r x : Step} → r ≡ termsStep g → x ≡ builtOf m r → x ≡ termStep (made (con a) g)
+    go (held {a = ts} {to} q) h e = e ∙ ap (builtOf m) h ∙ rw (← q .counted) (ap (Next to (atoms ts)) (con-words a ts))
+    go left h e = e ∙ ap (builtOf m) h

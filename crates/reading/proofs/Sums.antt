@@ -17,7 +17,7 @@ use Rattle.language.specs.declared.Head.the-variants.{Opens}
 use Rattle.sizes.proofs.Promises.{bound, bounds, boundᵃ, leasts}
 use Rattle.trust.proofs.Rows.{Opened, o-var, o-fun, o-rec, o-call, o-let, o-con, o-match, o-arm, passed}
 use Rattle.trust.proofs.Accepted.{Holds, held, left, Goodᵗ, term-good, many-good, arms-good}
-use Rattle.reading.specs.Steps.{aWord, small, stepOf, termStep, termsStep, armsStep, wordsOf, Roomy}
+use Rattle.reading.specs.Steps.{aWord, small, chainLength, stepOf, termStep, termsStep, armsStep, wordsOf, Roomy}
 use Rattle.reading.specs.declared.Step.{Step}
 use Rattle.reading.specs.declared.Step.the-variants.{Next}
 
@@ -52,14 +52,15 @@ module _ (s : List ℕ) (d n at : ℕ) where
 
   module _ (k : ℕ) where
     pub terms-small : {r : Step} → r ≡ termsStep (many (term s d n) k at) → wordsOf r ≤ 7 * length s
+    unfolding chainLength
     terms-small e = counts _ _ _ (many-good s d (term s d) (term-good s d) n k at) e (λ ts to q. omega (arith, bounds ts, short (q .held)))
 
     pub arms-small : {r : Step} → r ≡ armsStep (armsOf s (term s d) n k at) → wordsOf r ≤ 7 * length s
     arms-small e = counts _ _ _ (arms-good s d (term s d) (term-good s d) n k at) e (λ ps to q. omega (arith, boundᵃ ps, short (q .held)))
 
-    -- there are three words for each of the terms
+    -- there are six words for each of the terms
     pub terms-roomy : {r : Step} → r ≡ termsStep (many (term s d n) k at) → Roomy k r
-    unfolding stepOf Roomy
+    unfolding stepOf Roomy chainLength
     terms-roomy e = go (many-good s d (term s d) (term-good s d) n k at) e
       where
         go : {g : Got Terms} {r : Step} → Holds (Goodᵗ s d n k at) g → r ≡ termsStep g → Roomy k r

@@ -12,7 +12,7 @@ use lib.Dec.{ltb}
 use lib.ListN.{length, getD}
 use borrow.Author.Needs.{needs}
 use borrow.Author.Tests.{lt-ltb, le-ltb, lt-leb, le-leb}
-use Rattle.language.specs.Term.{Term, Terms, Arms, cons, arm}
+use Rattle.language.specs.Term.{Term, Arms, cons, arm, size}
 use Rattle.language.specs.Run.{atom, atoms}
 use Rattle.language.specs.Kinds.{mostArguments, atTerm, atArm, headOf}
 use Rattle.language.specs.Read.{Got, found, fault, then, made, word, headed, second, many, armsOf, opened, term}
@@ -23,7 +23,7 @@ use Rattle.language.specs.declared.Head.{Head}
 use Rattle.language.specs.declared.Head.the-variants.{Refused, Opens}
 use Rattle.sizes.specs.Lengths.{passingLengths}
 use Rattle.sizes.proofs.Lengths.{of-var, of-none}
-use Rattle.reading.specs.Steps.{stepOf, termStep, termsStep, armsStep, arity, countOf, grownOf, joinedOf, builtOf}
+use Rattle.reading.specs.Steps.{variableWords, functionWords, callWords, letWords, constructorWords, matchWords, armWords, chainedWords, savedWords, chainLength, stepOf, termStep, termsStep, armsStep, arity, countOf, grownOf, joinedOf, builtOf}
 use Rattle.reading.specs.declared.Step.{Step}
 use Rattle.reading.specs.declared.Step.the-variants.{Next, No}
 use Rattle.reading.specs.declared.Count.{Count}
@@ -50,19 +50,19 @@ module _ {r : Step} {to y : ℕ} {c : Bool} (h : r ≡ Next to c y) where
   unfolding grownOf
   g-next b z k = rw h
 
-  pub j-atom : (b : Bool) (z : ℕ) → b ≡ true → Next to c (y + z) ≡ joinedOf b z r
+  pub j-atom : (b : Bool) (z : ℕ) → b ≡ true → Next to c (y + z + chainedWords) ≡ joinedOf b z r
   unfolding joinedOf
   j-atom b z q = rw (h, q)
 
-  pub j-other : (b : Bool) (z : ℕ) → b ≡ false → Next to false (y + z) ≡ joinedOf b z r
+  pub j-other : (b : Bool) (z : ℕ) → b ≡ false → Next to false (y + z + chainedWords) ≡ joinedOf b z r
   unfolding joinedOf
   j-other b z q = rw (h, q)
 
-  pub b-atoms : (m : ℕ) → c ≡ true → Next to c (y + 5 - 3 * m) ≡ builtOf m r
+  pub b-atoms : (m : ℕ) → c ≡ true → Next to c (y + constructorWords - savedWords * m) ≡ builtOf m r
   unfolding builtOf
   b-atoms m q = rw (h, q)
 
-  pub b-others : (m : ℕ) → c ≡ false → Next to c (y + 3 * m + 5) ≡ builtOf m r
+  pub b-others : (m : ℕ) → c ≡ false → Next to c (y + constructorWords) ≡ builtOf m r
   unfolding builtOf
   b-others m q = rw (h, q)
 
@@ -133,7 +133,7 @@ module _ (s : List ℕ) (d n at : ℕ) {r : Head} (h : at < length s) (z : d ≡
 
 -- a term, from its head on
 module _ (s : List ℕ) (p : ℕ → ℕ → Got Term) (n at a o : ℕ) {f : Parts} where
-  pub p-bound : f ≡ Nothing → a < n → Next (at + 1) true 4 ≡ termStep (opened s p n at a o f)
+  pub p-bound : f ≡ Nothing → a < n → Next (at + 1) true variableWords ≡ termStep (opened s p n at a o f)
   unfolding stepOf opened atom
   p-bound q k = simp (q, lt-ltb _ _ k, of-var)
 
@@ -145,7 +145,7 @@ module _ (s : List ℕ) (p : ℕ → ℕ → Got Term) (n at a o : ℕ) {f : Par
   unfolding stepOf opened
   p-stray q = simp q
 
-  pub p-body : f ≡ Body → {x y : Step} → y ≡ termStep (p (n + a + o) (at + 1)) → x ≡ grownOf true 0 6 y → x ≡ termStep (opened s p n at a o f)
+  pub p-body : f ≡ Body → {x y : Step} → y ≡ termStep (p (n + a + o) (at + 1)) → x ≡ grownOf true 0 functionWords y → x ≡ termStep (opened s p n at a o f)
   unfolding opened
   p-body q k l = rw q (of-function _ _ _ k l)
 
@@ -155,13 +155,18 @@ module _ (s : List ℕ) (p : ℕ → ℕ → Got Term) (n at a o : ℕ) {f : Par
   unfolding opened
   p-stop c k l = ⊎-elim (λ q. rw q (stops _ _ _ _ _ _ k l)) (⊎-elim (λ q. rw q (stops _ _ _ _ _ _ k l)) (λ q. rw q (stops _ _ _ _ _ _ k l))) c
 
+  pub p-call : f ≡ FunctionAndArguments → {x y v : Step} {to c : ℕ} {b : Bool} → y ≡ termStep (p n (at + 1)) → y ≡ Next to b c
+      → v ≡ termsStep (many (p n) a to) → x ≡ grownOf false c callWords v → x ≡ termStep (opened s p n at a o f)
+  unfolding opened
+  p-call q k l m u = rw q (goes _ _ _ _ _ _ k l (λ t i w. of-calling t _ w m u))
+
   pub p-let : f ≡ BoundAndBody → {x y v : Step} {to c : ℕ} {b : Bool} → y ≡ termStep (p n (at + 1)) → y ≡ Next to b c → v ≡ termStep (p (n + o) to)
-      → x ≡ grownOf false c 7 v → x ≡ termStep (opened s p n at a o f)
+      → x ≡ grownOf false c letWords v → x ≡ termStep (opened s p n at a o f)
   unfolding opened
   p-let q k l m u = rw q (goes _ _ _ _ _ _ k l (λ t i w. of-let t _ w m u))
 
   pub p-match : f ≡ SubjectAndArms → {x y v : Step} {to c : ℕ} {b : Bool} → y ≡ termStep (p n (at + 1)) → y ≡ Next to b c → v ≡ armsStep (armsOf s p n a to)
-      → x ≡ grownOf false c 5 v → x ≡ termStep (opened s p n at a o f)
+      → x ≡ grownOf false c matchWords v → x ≡ termStep (opened s p n at a o f)
   unfolding opened
   p-match q k l m u = rw q (goes _ _ _ _ _ _ k l (λ t i w. of-match t _ w m u))
 
@@ -171,11 +176,6 @@ module _ (s : List ℕ) (p : ℕ → ℕ → Got Term) (n at a o : ℕ) {f : Par
   p-uncounted q k l = rw (q, is-fault _ k l)
 
 module _ (s : List ℕ) (d n at a o : ℕ) {f : Parts} where
-  pub p-call : f ≡ FunctionAndArguments → {x y v : Step} {to c : ℕ} {b : Bool} → y ≡ termStep (term s d n (at + 1)) → y ≡ Next to b c
-      → v ≡ termsStep (many (term s d n) a to) → x ≡ grownOf false c (3 * a + 6) v → x ≡ termStep (opened s (term s d) n at a o f)
-  unfolding opened
-  p-call q k l m u = rw q (goes _ _ _ _ _ _ k l (λ t i w. of-calling _ _ _ _ _ t w m u))
-
   pub p-con : f ≡ CountAndArguments → {x v : Step} {y : Count} {m i : ℕ} → y ≡ countOf (second s (at + 1)) → y ≡ Is m i
       → v ≡ termsStep (many (term s d n) m i) → x ≡ builtOf m v → x ≡ termStep (opened s (term s d) n at a o f)
   unfolding opened then
@@ -189,7 +189,7 @@ many-more p (suc k) at z = simp sub-one
 
 module _ (p : ℕ → Got Term) (k at : ℕ) where
   pub l-end : k ≡ 0 → Next at true 0 ≡ termsStep (many p k at)
-  unfolding many stepOf atom passingLengths
+  unfolding many stepOf atom passingLengths chainLength size
   l-end z = simp z
 
   module _ (z : k ≡ 0 → ⊥) where
@@ -233,7 +233,7 @@ module _ (s : List ℕ) (p : ℕ → ℕ → Got Term) (n k at : ℕ) where
       unfolding then
       a-stop o = came _ _ (armed s p n k at z) (rw (is-found _ c l) (stops _ _ _ _ _ _ q o))
 
-      pub a-more : {x g : Step} {to c : ℕ} {b : Bool} → v ≡ Next to b c → g ≡ armsStep (armsOf s p n (k - 1) to) → x ≡ grownOf false c 4 g
+      pub a-more : {x g : Step} {to c : ℕ} {b : Bool} → v ≡ Next to b c → g ≡ armsStep (armsOf s p n (k - 1) to) → x ≡ grownOf false c armWords g
           → x ≡ armsStep (armsOf s p n k at)
       unfolding then
       a-more o g u = came _ _ (armed s p n k at z) (rw (is-found _ c l) (goes _ _ _ _ _ _ q o (λ t o w. of-an-arm _ _ t _ w g u)))

@@ -1,11 +1,11 @@
 -- What the reading functions say of what they read, and how they put it together: the place after a thing, whether it is all atoms, and
--- how many words its passing forms have.
+-- how many words it has in an image.
 use Prim.Native.Nat.{ℕ, _+_, _-_, _*_, _≤_}
 use mathlib.Core.Bool.{Bool, true, false, cond, _&&_}
 use mathlib.Core.List.{List}
 use lib.Dec.{ltb, eqb}
 use lib.ListN.{length}
-use Rattle.language.specs.Term.{Term, Terms, Arms}
+use Rattle.language.specs.Term.{Term, Terms, Arms, size}
 use Rattle.language.specs.Run.{atom, atoms}
 use Rattle.language.specs.Kinds.{atArm, headOf}
 use Rattle.language.specs.Limits.{deepest, mostWords}
@@ -24,7 +24,44 @@ aWord = 65536
 abbrev pub small : ℕ
 small = 65536 * 65536
 
--- what was read, or the fault: α says whether a thing is all atoms, and π how many words its passing forms have
+-- the words of a variable's passing form, and those that each other form has besides its parts' passing forms and chains
+abbrev pub variableWords : ℕ
+variableWords = 4
+
+abbrev pub functionWords : ℕ
+functionWords = 6
+
+abbrev pub callWords : ℕ
+callWords = 6
+
+abbrev pub letWords : ℕ
+letWords = 7
+
+abbrev pub constructorWords : ℕ
+constructorWords = 5
+
+abbrev pub matchWords : ℕ
+matchWords = 5
+
+abbrev pub armWords : ℕ
+armWords = 4
+
+abbrev pub imageWords : ℕ
+imageWords = 3
+
+-- those of a chain for each of its terms, besides that term's passing form
+abbrev pub chainedWords : ℕ
+chainedWords = 3
+
+-- what each argument of a constructor of atoms saves: its words in a chain, and what its passing form has besides its carried form
+abbrev pub savedWords : ℕ
+savedWords = 6
+
+-- the words of a chain over these terms, without its ending
+unfoldable pub chainLength : Terms → ℕ
+chainLength ts = passingLengths ts + chainedWords * size ts
+
+-- what was read, or the fault: α says whether a thing is all atoms, and π how many words it has in an image
 unfoldable pub stepOf : {A : Type 0} → (A → Bool) → (A → ℕ) → Got A → Step
 stepOf α π (found a to) = Next to (α a) (π a)
 stepOf α π (fault e p) = No e p
@@ -33,7 +70,7 @@ abbrev pub termStep : Got Term → Step
 termStep g = stepOf atom passingLength g
 
 abbrev pub termsStep : Got Terms → Step
-termsStep g = stepOf atoms passingLengths g
+termsStep g = stepOf atoms chainLength g
 
 abbrev pub armsStep : Got Arms → Step
 armsStep g = stepOf (λ _. false) armLengths g
@@ -61,17 +98,17 @@ unfoldable pub grownOf : Bool → ℕ → ℕ → Step → Step
 grownOf b z by (Next to c y) = Next to b (y + z + by)
 grownOf b z by (No e p) = No e p
 
--- terms with one in front of them, whose passing form has z words
+-- a chain with a term in front of it, whose passing form has z words
 unfoldable pub joinedOf : Bool → ℕ → Step → Step
-joinedOf b z (Next to c y) = Next to (b && c) (y + z)
+joinedOf b z (Next to c y) = Next to (b && c) (y + z + chainedWords)
 joinedOf b z (No e p) = No e p
 
 -- a constructor of m arguments
 unfoldable pub builtOf : ℕ → Step → Step
-builtOf m (Next to b z) = Next to b (cond b (z + 5 - 3 * m) (z + 3 * m + 5))
+builtOf m (Next to b z) = Next to b (cond b (z + constructorWords - savedWords * m) (z + constructorWords))
 builtOf m (No e p) = No e p
 
--- there are three words for each of m arguments
+-- there are words enough for what m arguments save
 unfoldable pub Roomy : ℕ → Step → Type 0
-Roomy m (Next to b z) = 3 * m ≤ z
+Roomy m (Next to b z) = savedWords * m ≤ z
 Roomy m (No e p) = Unit {0}

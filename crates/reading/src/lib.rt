@@ -27,7 +27,7 @@ const UNBOUND: u8 = 7;
 
 const LEFT_OVER: u8 = 8;
 
-// The words of a variable's passing form, and those that each other form has besides its parts' passing forms.
+// The words of a variable's passing form, and those that each other form has besides its parts' passing forms and chains.
 const VARIABLE_WORDS: usize = 4;
 
 const FUNCTION_WORDS: usize = 6;
@@ -44,11 +44,14 @@ const ARM_WORDS: usize = 4;
 
 const IMAGE_WORDS: usize = 3;
 
-// The words of a chain for each argument; so many, too, does an atom's passing form have besides its carried form.
-const ARGUMENT_WORDS: usize = 3;
+// The words of a chain for each of its terms, besides that term's passing form.
+const CHAINED_WORDS: usize = 3;
 
-// What reading a thing gives: the place after it, whether it is all atoms, and the words of its passing forms; or a refusal's
-// number and the place of the word tested.
+// What each argument of a constructor of atoms saves: its words in a chain, and what its passing form has besides its carried form.
+const SAVED_WORDS: usize = 6;
+
+// What reading a thing gives: the place after it, whether it is all atoms, and its words in an image (of a term the passing
+// form's, of a list the chain's); or a refusal's number and the place of the word tested.
 enum Step {
     Next(usize, bool, usize),
     No(u8, usize),
@@ -89,7 +92,7 @@ fn grown(r: Step, all: bool, z: usize, by: usize) -> Step
     }
 }
 
-// Terms with one in front of them, whose passing form has z words.
+// A chain with a term in front of it, whose passing form has z words.
 fn joined(r: Step, all: bool, z: usize) -> Step
     requires { ⌜ (wordsOf r ≤ small) × (z ≤ small) ⌝ }
     ensures { λ x. ⌜ x ≡ joinedOf all z r ⌝ }
@@ -98,15 +101,15 @@ fn joined(r: Step, all: bool, z: usize) -> Step
         Step::No(e, p) => Step::No(e, p),
         Step::Next(to, b, y) => {
             if all {
-                Step::Next(to, b, y + z)
+                Step::Next(to, b, y + z + CHAINED_WORDS)
             } else {
-                Step::Next(to, false, y + z)
+                Step::Next(to, false, y + z + CHAINED_WORDS)
             }
         }
     }
 }
 
-// A constructor of m arguments: their carried forms if all are atoms, else a chain over them.
+// A constructor of m arguments: their carried forms if all are atoms, else the chain over them.
 fn built(r: Step, m: usize) -> Step
     requires { ⌜ (wordsOf r ≤ small) × (m < aWord) × Roomy m r ⌝ }
     ensures { λ x. ⌜ x ≡ builtOf m r ⌝ }
@@ -115,9 +118,9 @@ fn built(r: Step, m: usize) -> Step
         Step::No(e, p) => Step::No(e, p),
         Step::Next(to, b, z) => {
             if b {
-                Step::Next(to, b, z + CONSTRUCTOR_WORDS - ARGUMENT_WORDS * m)
+                Step::Next(to, b, z + CONSTRUCTOR_WORDS - SAVED_WORDS * m)
             } else {
-                Step::Next(to, b, z + ARGUMENT_WORDS * m + CONSTRUCTOR_WORDS)
+                Step::Next(to, b, z + CONSTRUCTOR_WORDS)
             }
         }
     }
@@ -151,27 +154,27 @@ fn arity_at(s: &[u16], at: usize) -> Count
 }
 
 // A term, with so many levels of depth left, under so many source variables.
-fn term_at(s: &[u16], at: usize, depth: usize, bound: usize) -> Step
-    requires { ⌜ (length (now s) ≤ aWord) × (bound + aWord * depth ≤ small) ⌝ }
-    ensures { λ r. ⌜ r ≡ termStep (term (now (s .entry)) depth bound at) ⌝ }
+fn term_at(s: &[u16], at: usize, left: usize, bound: usize) -> Step
+    requires { ⌜ (length (now s) ≤ aWord) × (bound + aWord * left ≤ small) ⌝ }
+    ensures { λ r. ⌜ r ≡ termStep (term (now (s .entry)) left bound at) ⌝ }
 {
     if s.len() <= at {
         return Step::No(NONE_LEFT, at);
     }
-    if depth == 0 {
+    if left == 0 {
         return Step::No(TOO_DEEP, at);
     }
     let w = s[at];
     match language::look(language::AT_TERM, w) {
         Head::Refused(e) => Step::No(e, at),
-        Head::Opens(row) => opened_at(s, at, depth - 1, bound, (w % 256) as usize, row),
+        Head::Opens(row) => opened_at(s, at, left - 1, bound, (w % 256) as usize, row),
     }
 }
 
 // The term whose head, at this place, has this low byte and this row; its parts have so many levels of depth left.
-fn opened_at(s: &[u16], at: usize, depth: usize, bound: usize, low: usize, row: Row) -> Step
-    requires { ⌜ (length (now s) ≤ aWord) × (bound + aWord * (depth + 1) ≤ small) × (at < length (now s)) × (low < 256) × (row .binds ≤ 1) ⌝ }
-    ensures { λ r. ⌜ r ≡ termStep (opened (now (s .entry)) (term (now (s .entry)) depth) bound at low (row .binds) (row .parts)) ⌝ }
+fn opened_at(s: &[u16], at: usize, left: usize, bound: usize, low: usize, row: Row) -> Step
+    requires { ⌜ (length (now s) ≤ aWord) × (bound + aWord * (left + 1) ≤ small) × (at < length (now s)) × (low < 256) × (row .binds ≤ 1) ⌝ }
+    ensures { λ r. ⌜ r ≡ termStep (opened (now (s .entry)) (term (now (s .entry)) left) bound at low (row .binds) (row .parts)) ⌝ }
 {
     let next = at + 1;
     let binds = row.binds;
@@ -184,70 +187,58 @@ fn opened_at(s: &[u16], at: usize, depth: usize, bound: usize, low: usize, row: 
                 Step::No(UNBOUND, at)
             }
         }
-        Parts::Body => grown(
-            term_at(s, next, depth, bound + low + binds),
-            true,
-            0,
-            FUNCTION_WORDS,
-        ),
-        Parts::FunctionAndArguments => match term_at(s, next, depth, bound) {
+        Parts::Body => {
+            let inner = bound + low + binds;
+            grown(term_at(s, next, left, inner), true, 0, FUNCTION_WORDS)
+        }
+        Parts::FunctionAndArguments => match term_at(s, next, left, bound) {
             Step::No(e, p) => Step::No(e, p),
-            Step::Next(to, _, z) => grown(
-                terms_at(s, to, depth, bound, low),
-                false,
-                z,
-                ARGUMENT_WORDS * low + CALL_WORDS,
-            ),
+            Step::Next(to, _, z) => grown(terms_at(s, to, left, bound, low), false, z, CALL_WORDS),
         },
-        Parts::BoundAndBody => match term_at(s, next, depth, bound) {
+        Parts::BoundAndBody => match term_at(s, next, left, bound) {
             Step::No(e, p) => Step::No(e, p),
-            Step::Next(to, _, z) => grown(
-                term_at(s, to, depth, bound + binds),
-                false,
-                z,
-                LET_WORDS,
-            ),
+            Step::Next(to, _, z) => grown(term_at(s, to, left, bound + binds), false, z, LET_WORDS),
         },
         Parts::CountAndArguments => match second_at(s, next) {
             Count::Not(e, p) => Step::No(e, p),
-            Count::Is(m, to) => built(terms_at(s, to, depth, bound, m as usize), m as usize),
+            Count::Is(m, to) => built(terms_at(s, to, left, bound, m as usize), m as usize),
         },
-        Parts::SubjectAndArms => match term_at(s, next, depth, bound) {
+        Parts::SubjectAndArms => match term_at(s, next, left, bound) {
             Step::No(e, p) => Step::No(e, p),
-            Step::Next(to, _, z) => grown(arms_at(s, to, depth, bound, low), false, z, MATCH_WORDS),
+            Step::Next(to, _, z) => grown(arms_at(s, to, left, bound, low), false, z, MATCH_WORDS),
         },
         Parts::ArityAndBody => Step::No(WRONG_KIND, at),
     }
 }
 
 // So many terms, one after the other.
-fn terms_at(s: &[u16], at: usize, depth: usize, bound: usize, count: usize) -> Step
-    requires { ⌜ (length (now s) ≤ aWord) × (bound + aWord * depth ≤ small) × (count < aWord) ⌝ }
-    ensures { λ r. ⌜ r ≡ termsStep (many (term (now (s .entry)) depth bound) count at) ⌝ }
+fn terms_at(s: &[u16], at: usize, left: usize, bound: usize, count: usize) -> Step
+    requires { ⌜ (length (now s) ≤ aWord) × (bound + aWord * left ≤ small) × (count < aWord) ⌝ }
+    ensures { λ r. ⌜ r ≡ termsStep (many (term (now (s .entry)) left bound) count at) ⌝ }
 {
     if count == 0 {
         return Step::Next(at, true, 0);
     }
-    match term_at(s, at, depth, bound) {
+    match term_at(s, at, left, bound) {
         Step::No(e, p) => Step::No(e, p),
-        Step::Next(to, b, z) => joined(terms_at(s, to, depth, bound, count - 1), b, z),
+        Step::Next(to, b, z) => joined(terms_at(s, to, left, bound, count - 1), b, z),
     }
 }
 
 // So many arms, one after the other.
-fn arms_at(s: &[u16], at: usize, depth: usize, bound: usize, count: usize) -> Step
-    requires { ⌜ (length (now s) ≤ aWord) × (bound + aWord * (depth + 1) ≤ small) × (count < aWord) ⌝ }
-    ensures { λ r. ⌜ r ≡ armsStep (armsOf (now (s .entry)) (term (now (s .entry)) depth) bound count at) ⌝ }
+fn arms_at(s: &[u16], at: usize, left: usize, bound: usize, count: usize) -> Step
+    requires { ⌜ (length (now s) ≤ aWord) × (bound + aWord * (left + 1) ≤ small) × (count < aWord) ⌝ }
+    ensures { λ r. ⌜ r ≡ armsStep (armsOf (now (s .entry)) (term (now (s .entry)) left) bound count at) ⌝ }
 {
     if count == 0 {
         return Step::Next(at, false, 0);
     }
     match arity_at(s, at) {
         Count::Not(e, p) => Step::No(e, p),
-        Count::Is(m, body) => match term_at(s, body, depth, bound + m as usize) {
+        Count::Is(m, body) => match term_at(s, body, left, bound + m as usize) {
             Step::No(e, p) => Step::No(e, p),
             Step::Next(to, _, z) => grown(
-                arms_at(s, to, depth, bound, count - 1),
+                arms_at(s, to, left, bound, count - 1),
                 false,
                 z,
                 ARM_WORDS,

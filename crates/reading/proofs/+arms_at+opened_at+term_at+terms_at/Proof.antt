@@ -1,4 +1,7 @@
-use Prim.Native.Nat.{ℕ, _<_}
+-- The functions that read terms, lists and arms through each other meet their contracts: each way out is a law of `Ways`, and what is left are bounds.
+-- The measure: a level of depth outweighs a head's parts, and these any count.
+-- Assumes nothing.
+use Prim.Native.Nat.{ℕ, _+_, _*_, _<_}
 use borrow.Fn.Kinds.{In}
 use borrow.Fn.PlainCycle.{Measures, is, falls, and}
 use Rattle.reading.proofs.arms_at.Reads as arms-at
@@ -21,22 +24,25 @@ use Rattle.reading.proofs.joined.Reads as joined-reads
 use Rattle.reading.proofs.second_at.Reads as second-at-reads
 use Rattle.reading.proofs.+arms_at+opened_at+term_at+terms_at.{statement}
 use Rattle.reading.proofs.+arms_at+opened_at+term_at+terms_at.Tie.{close}
-use Prim.Native.Nat.{_+_, _*_}
 use native.Mathlib.Omega.{arith}
+use Rattle.reading.specs.Steps.{aWord}
 use Rattle.reading.proofs.Sums.{sums}
 use Rattle.reading.proofs.Ways.{ways}
 
+abbrev level : ℕ
+level = 2 * aWord
+
 abbrev μ-arms-at : Measures 1 arms-at-kinds.ps ℕ
-μ-arms-at κs a = 131072 * a .1 .1 .0 + a .1 .1 .1 .1 .0
+μ-arms-at κs a = level * a .1 .1 .0 + a .1 .1 .1 .1 .0
 
 abbrev μ-opened-at : Measures 1 opened-at-kinds.ps ℕ
-μ-opened-at κs a = 131072 * a .1 .1 .0 + 131071
+μ-opened-at κs a = level * a .1 .1 .0 + aWord
 
 abbrev μ-term-at : Measures 1 term-at-kinds.ps ℕ
-μ-term-at κs a = 131072 * a .1 .1 .0
+μ-term-at κs a = level * a .1 .1 .0
 
 abbrev μ-terms-at : Measures 1 terms-at-kinds.ps ℕ
-μ-terms-at κs a = 131072 * a .1 .1 .0 + a .1 .1 .1 .1 .0
+μ-terms-at κs a = level * a .1 .1 .0 + a .1 .1 .1 .1 .0
 
 abbrev arms-at-at : ℕ → In 1 arms-at-kinds.ps
 arms-at-at t = and 1 arms-at-kinds.ps (is 1 arms-at-kinds.ps μ-arms-at t) arms-at.Pre
@@ -84,13 +90,13 @@ pub +arms-at+opened-at+term-at+terms-at-spec : {M : Type 1} → statement M
     (λ t. opened-at-lts.spec (opened-at-calls t) (opened-at-at t) opened-at.Post
     (λ c. search ways) (λ c. search ways) (λ c. search ways) (λ c. search ways) (λ c. search ways) (λ c κs. search ways)
     (λ c κs. search ways) (λ c. search ways) (λ c κs. search ways) (λ c. search ways) (λ c. search ways)
-    (λ c κs. search ways) (λ c. search ways) (λ c. search ways) (λ c κs. search ways) (λ c. search ways)
-    (λ c κs. search ways) (λ c. search ways) (λ c. search ways) (λ c. search ways) (λ c κs. search ways)
-    (λ c κs. search ways) (λ c. search ways) (λ c κs. search ways) (λ c. search ways) (λ c. search ways) (λ c. search ways)
-    (λ c κs. search ways) (λ c. search ways) (λ c κs. search ways) (λ c. search ways) (λ c κs. search ways)
-    (λ c. search ways) (λ c. search ways) (λ c κs. search ways) (λ c κs. search ways) (λ c. search ways) (λ c. search ways)
+    (λ c κs. search ways) (λ c κs. search ways) (λ c. search ways) (λ c κs. search ways) (λ c. search ways)
+    (λ c. search ways) (λ c. search ways) (λ c κs. search ways) (λ c κs. search ways) (λ c. search ways)
+    (λ c κs. search ways) (λ c. search ways) (λ c. search ways) (λ c. search ways) (λ c κs. search ways) (λ c. search ways)
+    (λ c κs. search ways) (λ c. search ways) (λ c κs. search ways) (λ c. search ways) (λ c. search ways)
+    (λ c κs. search ways) (λ c κs. search ways) (λ c. search ways) (λ c. search ways) (λ c. search ways) (λ c. search ways)
     (λ c. search ways) (λ c. search ways) (λ c. search ways) (λ c. search ways) (λ c. search ways) (λ c. search ways)
-    (λ c. search ways) (λ c. search ways) (λ c. search ways) (λ c. search ways) (λ c. search ways))
+    (λ c. search ways) (λ c. search ways) (λ c. search ways))
     (λ t. term-at-lts.spec (term-at-calls t) (term-at-at t) term-at.Post
     (λ c. search ways) (λ c. search ways) (λ c. search ways) (λ c. search ways) (λ c κs. search ways) (λ c. search ways)
     (λ c. search ways) (λ c. search ways) (λ c. search ways)

@@ -22,16 +22,9 @@ sub-t13 : tie.Need-sub-t13
 unfolding Roomy
 sub-t13 c = omega (arith, rw (c .before .before .r2 .given .1) at (c .before .before .before .before .pre .2))
 
-mul-t14 : tie.Need-mul-t14
-mul-t14 c = search ways
-
-add-t15 : tie.Need-add-t15
+add-t14 : tie.Need-add-t14
 unfolding wordsOf
-add-t15 c = omega (arith, ap wordsOf (c .before .before .r2 .given .1))
-
-add-t16 : tie.Need-add-t16
-unfolding wordsOf
-add-t16 c = omega (arith, ap wordsOf (c .before .before .r2 .given .1))
+add-t14 c = omega (arith, ap wordsOf (c .before .before .r2 .given .1))
 
 returns : tie.Need-returns
 returns c = search ways
@@ -51,9 +44,7 @@ built-spec =
     add-t11
     mul-t12
     sub-t13
-    mul-t14
-    add-t15
-    add-t16
+    add-t14
     returns
     returns-2
     returns-3)

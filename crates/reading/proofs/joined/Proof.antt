@@ -19,6 +19,14 @@ add-t13 : tie.Need-add-t13
 unfolding wordsOf
 add-t13 c = omega (arith, ap wordsOf (c .before .before .r2 .given .1))
 
+add-t14 : tie.Need-add-t14
+unfolding wordsOf
+add-t14 c = omega (arith, ap wordsOf (c .before .before .r2 .given .1))
+
+add-t15 : tie.Need-add-t15
+unfolding wordsOf
+add-t15 c = omega (arith, ap wordsOf (c .before .before .r2 .given .1))
+
 returns : tie.Need-returns
 returns c = search ways
 
@@ -30,4 +38,14 @@ returns-3 c = search ways
 
 pub joined-spec : {M : Type 1} → statement M
 joined-spec =
-    tie.close (tie.spec enum-known-r enum-known-r-2 add-t12 add-t13 returns returns-2 returns-3)
+    tie.close
+    (tie.spec
+    enum-known-r
+    enum-known-r-2
+    add-t12
+    add-t13
+    add-t14
+    add-t15
+    returns
+    returns-2
+    returns-3)
