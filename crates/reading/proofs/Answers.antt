@@ -1,4 +1,5 @@
--- One law for each way out of the calls on a whole table of words: what was tested, and the answer that is then right.
+-- One law for each way out of the calls on a whole table of words: what was tested, and the answer that is then right. And that the contracts of
+-- the public calls determine their answers.
 -- Assumes nothing.
 use Prim.Native.Nat.{ℕ, _+_, _*_, _<_, _≤_}
 use mathlib.Core.Path.{_≡_, refl, ap}
@@ -23,7 +24,9 @@ use Rattle.reading.specs.declared.Step.{Step}
 use Rattle.reading.specs.declared.Step.the-variants.{Next, No}
 use Rattle.reading.specs.declared.Answer.{Answer}
 use Rattle.reading.specs.declared.Answer.the-variants as answer
+use Rattle.reading.specs.declared.Checked.{Checked}
 use Rattle.reading.specs.declared.Checked.the-variants as check
+use Rattle.reading.specs.declared.Measured.{Measured}
 use Rattle.reading.specs.declared.Measured.the-variants as measure
 use Rattle.reading.proofs.Steps.{never}
 use Rattle.reading.proofs.Sums.{term-small}
@@ -116,5 +119,20 @@ pub m-words : (r : Reading) {a : Answer} {n : ℕ} → a ≡ answerOf r → a �
 unfolding answerOf measuredReply measured imageLength
 m-words (accepted t) h k = cc
 m-words (refused e p) h k = never cc
+
+-- each contract determines the answer: two that mean one reply are one
+pub same-checked : (a b : Checked) → checkedReply a ≡ checkedReply b → a ≡ b
+unfolding checkedReply
+same-checked check.Accepted check.Accepted e = refl
+same-checked check.Accepted (check.Refused n) e = never cc
+same-checked (check.Refused m) check.Accepted e = never cc
+same-checked (check.Refused m) (check.Refused n) e = cc
+
+pub same-measured : (a b : Measured) → measuredReply a ≡ measuredReply b → a ≡ b
+unfolding measuredReply
+same-measured (measure.Words m) (measure.Words n) e = cc
+same-measured (measure.Words m) (measure.Refused n) e = never cc
+same-measured (measure.Refused m) (measure.Words n) e = never cc
+same-measured (measure.Refused m) (measure.Refused n) e = cc
 
 pub ruleset answers = (k-none, k-many, k-term, r-stop, r-left, r-words, r-fits, c-refused, c-accepted, m-refused, m-words, needs)

@@ -2,7 +2,7 @@
 -- right. `search ways` finds a law's premises in what is known where the code returns.
 -- Assumes nothing.
 use Prim.Native.Nat.{ℕ, zero, suc, _+_, _-_, _*_, _%_, _<_, _≤_}
-use mathlib.Core.Path.{_≡_, refl, sym, ap, _∙_}
+use mathlib.Core.Path.{_≡_, refl, _∙_}
 use mathlib.Core.Bool.{Bool, true, false, cond}
 use mathlib.Core.List.{List}
 use mathlib.Core.Logic.{_⊎_, inl, inr, ⊎-elim}
@@ -12,8 +12,8 @@ use lib.Dec.{ltb}
 use lib.ListN.{length, getD}
 use borrow.Author.Needs.{needs}
 use borrow.Author.Tests.{lt-ltb, le-ltb, lt-leb, le-leb}
-use Rattle.language.specs.Term.{Term, Arms, cons, arm, size}
-use Rattle.language.specs.Run.{atom, atoms}
+use Rattle.language.specs.Term.{Term, Arms, fun, call, bind, cases, cons, arm, size}
+use Rattle.language.specs.Run.{atom}
 use Rattle.language.specs.Kinds.{mostArguments, atTerm, atArm, headOf}
 use Rattle.language.specs.Read.{Got, found, fault, then, made, word, headed, second, many, armsOf, opened, term}
 use Rattle.language.specs.declared.Parts.{Parts}
@@ -22,14 +22,15 @@ use Rattle.language.specs.declared.Row.{Row}
 use Rattle.language.specs.declared.Head.{Head}
 use Rattle.language.specs.declared.Head.the-variants.{Refused, Opens}
 use Rattle.sizes.specs.Lengths.{passingLengths}
-use Rattle.sizes.proofs.Lengths.{of-var, of-none}
-use Rattle.reading.specs.Steps.{variableWords, functionWords, callWords, letWords, constructorWords, matchWords, armWords, chainedWords, savedWords, chainLength, stepOf, termStep, termsStep, armsStep, arity, countOf, grownOf, joinedOf, builtOf}
+use Rattle.sizes.proofs.Lengths.{of-var, of-fun, of-call, of-bind, of-cases, of-none, of-arm}
+use Rattle.reading.specs.Steps.{variableWords, functionWords, callWords, letWords, constructorWords, matchWords, armWords, chainedWords, savedWords}
+use Rattle.reading.specs.Steps.{chainLength, stepOf, termStep, termsStep, armsStep, arity, countOf, grownOf, joinedOf, builtOf}
 use Rattle.reading.specs.declared.Step.{Step}
 use Rattle.reading.specs.declared.Step.the-variants.{Next, No}
 use Rattle.reading.specs.declared.Count.{Count}
 use Rattle.reading.specs.declared.Count.the-variants.{Is, Not}
 use Rattle.reading.proofs.Sums.{sums}
-use Rattle.reading.proofs.Steps.{never, came, stops, goes, of-function, of-calling, of-let, of-match, of-an-arm, of-cons, of-construct}
+use Rattle.reading.proofs.Steps.{never, came, stops, goes, grows, of-cons, of-construct}
 
 -- what is put together of steps
 module _ {r : Step} {e p : ℕ} (h : r ≡ No e p) where
@@ -145,30 +146,33 @@ module _ (s : List ℕ) (p : ℕ → ℕ → Got Term) (n at a o : ℕ) {f : Par
   unfolding stepOf opened
   p-stray q = simp q
 
-  pub p-body : f ≡ Body → {x y : Step} → y ≡ termStep (p (n + a + o) (at + 1)) → x ≡ grownOf true 0 functionWords y → x ≡ termStep (opened s p n at a o f)
-  unfolding opened
-  p-body q k l = rw q (of-function _ _ _ k l)
+  pub p-body : f ≡ Body → {x y : Step} → y ≡ termStep (p (n + a + o) (at + 1)) → x ≡ grownOf true 0 functionWords y
+      → x ≡ termStep (opened s p n at a o f)
+  unfolding opened atom
+  p-body q k l = rw q (grows _ _ _ _ (fun o a) _ _ _ _ k (λ b. refl) (λ b. omega (arith, of-fun o a b)) l)
 
   -- a first part that is refused: of a call, a let or a match
-  pub p-stop : (f ≡ FunctionAndArguments) ⊎ ((f ≡ BoundAndBody) ⊎ (f ≡ SubjectAndArms)) → {y : Step} {b i : ℕ} → y ≡ termStep (p n (at + 1)) → y ≡ No b i
+  pub p-stop : (f ≡ FunctionAndArguments) ⊎ ((f ≡ BoundAndBody) ⊎ (f ≡ SubjectAndArms)) → {y : Step} {b i : ℕ} → y ≡ termStep (p n (at + 1))
+      → y ≡ No b i
       → No b i ≡ termStep (opened s p n at a o f)
   unfolding opened
   p-stop c k l = ⊎-elim (λ q. rw q (stops _ _ _ _ _ _ k l)) (⊎-elim (λ q. rw q (stops _ _ _ _ _ _ k l)) (λ q. rw q (stops _ _ _ _ _ _ k l))) c
 
   pub p-call : f ≡ FunctionAndArguments → {x y v : Step} {to c : ℕ} {b : Bool} → y ≡ termStep (p n (at + 1)) → y ≡ Next to b c
       → v ≡ termsStep (many (p n) a to) → x ≡ grownOf false c callWords v → x ≡ termStep (opened s p n at a o f)
-  unfolding opened
-  p-call q k l m u = rw q (goes _ _ _ _ _ _ k l (λ t i w. of-calling t _ w m u))
+  unfolding opened atom chainLength
+  p-call q k l m u = rw q (goes _ _ _ _ _ _ k l (λ t i w. grows _ _ _ _ (call t) _ _ _ _ m (λ ps. refl) (λ ps. omega (arith, of-call t ps)) u))
 
   pub p-let : f ≡ BoundAndBody → {x y v : Step} {to c : ℕ} {b : Bool} → y ≡ termStep (p n (at + 1)) → y ≡ Next to b c → v ≡ termStep (p (n + o) to)
       → x ≡ grownOf false c letWords v → x ≡ termStep (opened s p n at a o f)
-  unfolding opened
-  p-let q k l m u = rw q (goes _ _ _ _ _ _ k l (λ t i w. of-let t _ w m u))
+  unfolding opened atom
+  p-let q k l m u = rw q (goes _ _ _ _ _ _ k l (λ t i w. grows _ _ _ _ (bind t) _ _ _ _ m (λ b. refl) (λ b. omega (arith, of-bind t b)) u))
 
-  pub p-match : f ≡ SubjectAndArms → {x y v : Step} {to c : ℕ} {b : Bool} → y ≡ termStep (p n (at + 1)) → y ≡ Next to b c → v ≡ armsStep (armsOf s p n a to)
+  pub p-match : f ≡ SubjectAndArms → {x y v : Step} {to c : ℕ} {b : Bool} → y ≡ termStep (p n (at + 1)) → y ≡ Next to b c
+      → v ≡ armsStep (armsOf s p n a to)
       → x ≡ grownOf false c matchWords v → x ≡ termStep (opened s p n at a o f)
-  unfolding opened
-  p-match q k l m u = rw q (goes _ _ _ _ _ _ k l (λ t i w. of-match t _ w m u))
+  unfolding opened atom
+  p-match q k l m u = rw q (goes _ _ _ _ _ _ k l (λ t i w. grows _ _ _ _ (cases t) _ _ _ _ m (λ ps. refl) (λ ps. omega (arith, of-cases t ps)) u))
 
   pub p-uncounted : f ≡ CountAndArguments → {y : Count} {b i : ℕ} → y ≡ countOf (second s (at + 1)) → y ≡ Not b i
       → No b i ≡ termStep (opened s p n at a o f)
@@ -236,7 +240,8 @@ module _ (s : List ℕ) (p : ℕ → ℕ → Got Term) (n k at : ℕ) where
       pub a-more : {x g : Step} {to c : ℕ} {b : Bool} → v ≡ Next to b c → g ≡ armsStep (armsOf s p n (k - 1) to) → x ≡ grownOf false c armWords g
           → x ≡ armsStep (armsOf s p n k at)
       unfolding then
-      a-more o g u = came _ _ (armed s p n k at z) (rw (is-found _ c l) (goes _ _ _ _ _ _ q o (λ t o w. of-an-arm _ _ t _ w g u)))
+      a-more o g u = came _ _ (armed s p n k at z) (rw (is-found _ c l) (goes _ _ _ _ _ _ q o
+          (λ t o w. grows _ _ _ _ (arm (getD s at 0 % 256) m t) _ _ _ _ g (λ ps. refl) (λ ps. omega (arith, of-arm (getD s at 0 % 256) m t ps)) u)))
 
 pub ruleset ways = (
   g-no,

@@ -1,7 +1,7 @@
 -- What the reading functions say of what they read, and how they put it together: the place after a thing, whether it is all atoms, and
 -- how many words it has in an image.
 use Prim.Native.Nat.{ℕ, _+_, _-_, _*_, _≤_}
-use mathlib.Core.Bool.{Bool, true, false, cond, _&&_}
+use mathlib.Core.Bool.{Bool, false, cond, _&&_}
 use mathlib.Core.List.{List}
 use lib.Dec.{ltb, eqb}
 use lib.ListN.{length}

@@ -1,4 +1,5 @@
--- The functions that read terms, lists and arms through each other meet their contracts: each way out is a law of `Ways`, and what is left are bounds.
+-- The functions that read terms, lists and arms through each other meet their contracts: each way out is a law of `Ways`, and what is left are
+-- bounds.
 -- The measure: a level of depth outweighs a head's parts, and these any count.
 -- Assumes nothing.
 use Prim.Native.Nat.{ℕ, _+_, _*_, _<_}
@@ -69,10 +70,32 @@ abbrev terms-at-below : ℕ → In 1 terms-at-kinds.ps
 terms-at-below t = and 1 terms-at-kinds.ps (falls 1 terms-at-kinds.ps _<_ μ-terms-at t) terms-at.Pre
 
 abbrev arms-at-calls : ℕ → arms-at-lts.Claims
-arms-at-calls t = (arity-at-reads.Asked, arity-at-reads.Learnt, term-at-below t, term-at.Post, arms-at-below t, arms-at.Post, grown-reads.Asked, grown-reads.Learnt)
+arms-at-calls t = (
+  arity-at-reads.Asked,
+  arity-at-reads.Learnt,
+  term-at-below t,
+  term-at.Post,
+  arms-at-below t,
+  arms-at.Post,
+  grown-reads.Asked,
+  grown-reads.Learnt,
+)
 
 abbrev opened-at-calls : ℕ → opened-at-lts.Claims
-opened-at-calls t = (term-at-below t, term-at.Post, grown-reads.Asked, grown-reads.Learnt, terms-at-below t, terms-at.Post, second-at-reads.Asked, second-at-reads.Learnt, built-reads.Asked, built-reads.Learnt, arms-at-below t, arms-at.Post)
+opened-at-calls t = (
+  term-at-below t,
+  term-at.Post,
+  grown-reads.Asked,
+  grown-reads.Learnt,
+  terms-at-below t,
+  terms-at.Post,
+  second-at-reads.Asked,
+  second-at-reads.Learnt,
+  built-reads.Asked,
+  built-reads.Learnt,
+  arms-at-below t,
+  arms-at.Post,
+)
 
 abbrev term-at-calls : ℕ → term-at-lts.Claims
 term-at-calls t = (look-reads.Asked, look-reads.Learnt, opened-at-below t, opened-at.Post)

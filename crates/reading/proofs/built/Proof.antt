@@ -1,3 +1,5 @@
+-- `reading::built` meets its contract: each way out is a law of `Ways`; there are words enough for what the arguments save.
+-- Assumes nothing.
 use mathlib.Core.Path.{ap}
 use native.Mathlib.Omega.{arith}
 use Rattle.reading.specs.Steps.{wordsOf, Roomy}

@@ -1,3 +1,5 @@
+-- `reading::check` meets its contract: a projection of what `judge` answers.
+-- Assumes nothing.
 use Rattle.reading.proofs.Answers.{answers}
 use Rattle.reading.proofs.check.Statement.{statement}
 use Rattle.reading.proofs.check.Tie as tie

@@ -1,3 +1,5 @@
+-- `reading::closed_at` meets its contract: each way out is a law of `Answers`.
+-- Assumes nothing.
 use Rattle.reading.proofs.Answers.{answers}
 use Rattle.reading.proofs.closed_at.Statement.{statement}
 use Rattle.reading.proofs.closed_at.Tie as tie

@@ -1,3 +1,5 @@
+-- `reading::joined` meets its contract: each way out is a law of `Ways`; what a step counts is small, so that the sums fit.
+-- Assumes nothing.
 use mathlib.Core.Path.{ap}
 use native.Mathlib.Omega.{arith}
 use Rattle.reading.specs.Steps.{wordsOf}

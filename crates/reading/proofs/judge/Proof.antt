@@ -1,3 +1,5 @@
+-- `reading::judge` meets its contract: each way out is a law of `Answers`.
+-- Assumes nothing.
 use Rattle.reading.proofs.Answers.{answers}
 use Rattle.reading.proofs.judge.Statement.{statement}
 use Rattle.reading.proofs.judge.Tie as tie

@@ -1,3 +1,5 @@
+-- `reading::measure` meets its contract: a projection of what `judge` answers.
+-- Assumes nothing.
 use Rattle.reading.proofs.Answers.{answers}
 use Rattle.reading.proofs.measure.Statement.{statement}
 use Rattle.reading.proofs.measure.Tie as tie

@@ -1,3 +1,5 @@
+-- `reading::second_at` meets its contract: each way out is a law of `Ways`.
+-- Assumes nothing.
 use Rattle.reading.proofs.Ways.{ways}
 use Rattle.reading.proofs.second_at.Statement.{statement}
 use Rattle.reading.proofs.second_at.Tie as tie
