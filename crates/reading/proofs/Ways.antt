@@ -1,5 +1,6 @@
 -- One law for each way out of the reading functions: what was tested and called on the way, in the code's own form, and the answer that is then
--- right. `search ways` finds a law's premises in what is known where the code returns.
+-- right. `search ways` finds a law's premises in what is known where the code returns. A law's first letter says of which function: g grown, j joined,
+-- b built, c second_at, h arity_at, t term_at, p opened_at, l terms_at, a arms_at.
 -- Assumes nothing.
 use Prim.Native.Nat.{ℕ, zero, suc, _+_, _-_, _*_, _%_, _<_, _≤_}
 use mathlib.Core.Path.{_≡_, refl, _∙_}

@@ -5,6 +5,7 @@ use language::Row;
 ghost use mathlib.Core.Path.{_≡_};
 ghost use Prim.Native.Nat.{_+_, _*_, _≤_, _<_};
 ghost use lib.ListN.{length};
+ghost use Rattle.language.specs.Kinds.{mostByte};
 ghost use Rattle.language.specs.Read.{second, many, armsOf, opened, term, read};
 ghost use Rattle.language.specs.Calls.{checked, measured};
 ghost use Rattle.reading.specs.Steps.{aWord, small, termStep, termsStep, armsStep, arity, closed, countOf, wordsOf, grownOf, joinedOf, builtOf, Roomy};
@@ -49,6 +50,9 @@ const CHAINED_WORDS: usize = 3;
 
 // What each argument of a constructor of atoms saves: its words in a chain, and what its passing form has besides its carried form.
 const SAVED_WORDS: usize = 6;
+
+// A head's number is its low byte: what is left by this.
+const LOW_BYTE: u16 = 256;
 
 // What reading a thing gives: the place after it, whether it is all atoms, and its words in an image (of a term the passing
 // form's, of a list the chain's); or a refusal's number and the place of the word tested.
@@ -167,13 +171,13 @@ fn term_at(s: &[u16], at: usize, left: usize, bound: usize) -> Step
     let w = s[at];
     match language::look(language::AT_TERM, w) {
         Head::Refused(e) => Step::No(e, at),
-        Head::Opens(row) => opened_at(s, at, left - 1, bound, (w % 256) as usize, row),
+        Head::Opens(row) => opened_at(s, at, left - 1, bound, (w % LOW_BYTE) as usize, row),
     }
 }
 
 // The term whose head, at this place, has this low byte and this row; its parts have so many levels of depth left.
 fn opened_at(s: &[u16], at: usize, left: usize, bound: usize, low: usize, row: Row) -> Step
-    requires { ⌜ (length (now s) ≤ aWord) × (bound + aWord * (left + 1) ≤ small) × (at < length (now s)) × (low < 256) × (row .binds ≤ 1) ⌝ }
+    requires { ⌜ (length (now s) ≤ aWord) × (bound + aWord * (left + 1) ≤ small) × (at < length (now s)) × (low ≤ mostByte) × (row .binds ≤ 1) ⌝ }
     ensures { λ r. ⌜ r ≡ termStep (opened (now (s .entry)) (term (now (s .entry)) left) bound at low (row .binds) (row .parts)) ⌝ }
 {
     let next = at + 1;
