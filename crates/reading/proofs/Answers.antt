@@ -15,19 +15,19 @@ use borrow.Author.Tests.{lt-ltb, le-ltb, eq-eqb, ne-eqb, ltb-false}
 use Rattle.language.specs.Term.{Term}
 use Rattle.language.specs.Limits.{deepest, mostWords}
 use Rattle.language.specs.Read.{Got, found, fault, then, term, Reading, accepted, refused, reading, read}
-use Rattle.language.specs.Calls.{checked, measured}
+use Rattle.language.specs.Calls.{replyOf, checked, measured}
 use Rattle.sizes.specs.Lengths.{passingLength, imageLength}
 use Rattle.sizes.proofs.Lengths.{of-image}
 use Rattle.reading.specs.Steps.{imageWords, stepOf, termStep, closed, wordsOf}
-use Rattle.reading.specs.Answers.{answerOf, checkedReply, measuredReply}
+use Rattle.reading.specs.Answers.{verdictOf, checkedReply}
 use Rattle.reading.specs.declared.Step.{Step}
 use Rattle.reading.specs.declared.Step.the-variants.{Next, No}
-use Rattle.reading.specs.declared.Answer.{Answer}
-use Rattle.reading.specs.declared.Answer.the-variants as answer
+use Rattle.reading.specs.declared.Verdict.{Verdict}
+use Rattle.reading.specs.declared.Verdict.the-variants as verdict
 use Rattle.reading.specs.declared.Checked.{Checked}
 use Rattle.reading.specs.declared.Checked.the-variants as check
-use Rattle.reading.specs.declared.Measured.{Measured}
-use Rattle.reading.specs.declared.Measured.the-variants as measure
+use Rattle.language.specs.declared.Answer.{Answer}
+use Rattle.language.specs.declared.Answer.the-variants as answer
 use Rattle.reading.proofs.Steps.{never}
 use Rattle.reading.proofs.Sums.{term-small}
 
@@ -71,68 +71,68 @@ read-closed s = go (eqb (length s) 0) (ltb mostWords (length s))
     go false true = refl
     go false false = refl
 
-stopped : (g : Got Term) (f : Term → ℕ → Got Term) {y : Step} {e p : ℕ} → y ≡ termStep g → y ≡ No e p → answer.No e p ≡ answerOf (reading (then g f))
-unfolding stepOf then answerOf
+stopped : (g : Got Term) (f : Term → ℕ → Got Term) {y : Step} {e p : ℕ} → y ≡ termStep g → y ≡ No e p → verdict.No e p ≡ verdictOf (reading (then g f))
+unfolding stepOf then verdictOf
 stopped (found t to) f h k = never cc
 stopped (fault n at) f h k = cc
 
-went : (g : Got Term) (f : Term → ℕ → Got Term) {y : Step} {x : Answer} {to z : ℕ} {b : Bool} → y ≡ termStep g → y ≡ Next to b z
-    → ((t : Term) → passingLength t ≡ z → x ≡ answerOf (reading (f t to))) → x ≡ answerOf (reading (then g f))
+went : (g : Got Term) (f : Term → ℕ → Got Term) {y : Step} {x : Verdict} {to z : ℕ} {b : Bool} → y ≡ termStep g → y ≡ Next to b z
+    → ((t : Term) → passingLength t ≡ z → x ≡ verdictOf (reading (f t to))) → x ≡ verdictOf (reading (then g f))
 unfolding stepOf then
 went (found t at) f {to = to} h k next = let e : at ≡ to = cc in rw e (next t cc)
 went (fault n at) f h k next = never cc
 
 module _ (s : List ℕ) {y : Step} (h : y ≡ termStep (closed s 0)) where
-  pub r-stop : {e p : ℕ} → y ≡ No e p → answer.No e p ≡ answerOf (read s)
+  pub r-stop : {e p : ℕ} → y ≡ No e p → verdict.No e p ≡ verdictOf (read s)
   r-stop k = rw (read-closed s) (stopped _ _ h k)
 
-  pub r-left : {to c : ℕ} {b : Bool} → y ≡ Next to b c → to < length s → answer.No 8 to ≡ answerOf (read s)
-  unfolding answerOf ended
+  pub r-left : {to c : ℕ} {b : Bool} → y ≡ Next to b c → to < length s → verdict.No 8 to ≡ verdictOf (read s)
+  unfolding verdictOf ended
   r-left k l = rw (read-closed s) (went _ _ h k (λ t q. simp (lt-ltb _ _ l)))
 
-  pub r-words : {to c : ℕ} {b : Bool} → y ≡ Next to b c → length s ≤ to → answer.Words (c + imageWords) ≡ answerOf (read s)
-  unfolding answerOf ended
-  r-words k l = rw (read-closed s) (went _ _ h k (λ t q. simp (le-ltb _ _ l) (ap answer.Words (omega (arith, of-image t)))))
+  pub r-words : {to c : ℕ} {b : Bool} → y ≡ Next to b c → length s ≤ to → verdict.Words (c + imageWords) ≡ verdictOf (read s)
+  unfolding verdictOf ended
+  r-words k l = rw (read-closed s) (went _ _ h k (λ t q. simp (le-ltb _ _ l) (ap verdict.Words (omega (arith, of-image t)))))
 
   -- the words of the image do not wrap
   pub r-fits : {to c : ℕ} {b : Bool} → y ≡ Next to b c → Fits w64 (c + imageWords)
   unfolding wordsOf
   r-fits k = record { fits = omega (arith, closed-small s 0 h, ap wordsOf k) }
 
--- what the two calls make of the answer
-pub c-refused : (r : Reading) {a : Answer} {e p : ℕ} → a ≡ answerOf r → a ≡ answer.No e p → checkedReply (check.Refused e) ≡ checked r
-unfolding answerOf checkedReply checked
+-- what the two calls make of the verdict
+pub c-refused : (r : Reading) {a : Verdict} {e p : ℕ} → a ≡ verdictOf r → a ≡ verdict.No e p → checkedReply (check.Refusal e) ≡ checked r
+unfolding verdictOf checkedReply checked
 c-refused (accepted t) h k = never cc
 c-refused (refused e p) h k = cc
 
-pub c-accepted : (r : Reading) {a : Answer} {n : ℕ} → a ≡ answerOf r → a ≡ answer.Words n → checkedReply check.Accepted ≡ checked r
-unfolding answerOf checkedReply checked
+pub c-accepted : (r : Reading) {a : Verdict} {n : ℕ} → a ≡ verdictOf r → a ≡ verdict.Words n → checkedReply check.Success ≡ checked r
+unfolding verdictOf checkedReply checked
 c-accepted (accepted t) h k = refl
 c-accepted (refused e p) h k = never cc
 
-pub m-refused : (r : Reading) {a : Answer} {e p : ℕ} → a ≡ answerOf r → a ≡ answer.No e p → measuredReply (measure.Refused e) ≡ measured r
-unfolding answerOf measuredReply measured
+pub m-refused : (r : Reading) {a : Verdict} {e p : ℕ} → a ≡ verdictOf r → a ≡ verdict.No e p → replyOf (answer.Refusal e) ≡ measured r
+unfolding verdictOf replyOf measured
 m-refused (accepted t) h k = never cc
 m-refused (refused e p) h k = cc
 
-pub m-words : (r : Reading) {a : Answer} {n : ℕ} → a ≡ answerOf r → a ≡ answer.Words n → measuredReply (measure.Words n) ≡ measured r
-unfolding answerOf measuredReply measured imageLength
+pub m-words : (r : Reading) {a : Verdict} {n : ℕ} → a ≡ verdictOf r → a ≡ verdict.Words n → replyOf (answer.Count n) ≡ measured r
+unfolding verdictOf replyOf measured imageLength
 m-words (accepted t) h k = cc
 m-words (refused e p) h k = never cc
 
 -- each contract determines the answer: two that mean one reply are one
 pub same-checked : (a b : Checked) → checkedReply a ≡ checkedReply b → a ≡ b
 unfolding checkedReply
-same-checked check.Accepted check.Accepted e = refl
-same-checked check.Accepted (check.Refused n) e = never cc
-same-checked (check.Refused m) check.Accepted e = never cc
-same-checked (check.Refused m) (check.Refused n) e = cc
+same-checked check.Success check.Success e = refl
+same-checked check.Success (check.Refusal n) e = never cc
+same-checked (check.Refusal m) check.Success e = never cc
+same-checked (check.Refusal m) (check.Refusal n) e = cc
 
-pub same-measured : (a b : Measured) → measuredReply a ≡ measuredReply b → a ≡ b
-unfolding measuredReply
-same-measured (measure.Words m) (measure.Words n) e = cc
-same-measured (measure.Words m) (measure.Refused n) e = never cc
-same-measured (measure.Refused m) (measure.Words n) e = never cc
-same-measured (measure.Refused m) (measure.Refused n) e = cc
+pub same-answer : (a b : Answer) → replyOf a ≡ replyOf b → a ≡ b
+unfolding replyOf
+same-answer (answer.Count m) (answer.Count n) e = cc
+same-answer (answer.Count m) (answer.Refusal n) e = never cc
+same-answer (answer.Refusal m) (answer.Count n) e = never cc
+same-answer (answer.Refusal m) (answer.Refusal n) e = cc
 
 pub ruleset answers = (k-none, k-many, k-term, r-stop, r-left, r-words, r-fits, c-refused, c-accepted, m-refused, m-words, needs)

@@ -1,26 +1,19 @@
--- What the code's answers mean: document 01, "Checks in order". Each case of an answer has the paper's number, and its values.
-use Prim.Native.Nat.{ℕ}
+-- What the code's answers mean: document 01, "Checks in order". Each case has the paper's number and its values; of the measuring call's
+-- answer `replyOf` says them.
 use Rattle.language.specs.Read.{Reading, accepted, refused}
 use Rattle.language.specs.Calls.{Reply, success, refusal}
 use Rattle.sizes.specs.Lengths.{imageLength}
-use Rattle.reading.specs.declared.Answer.{Answer}
-use Rattle.reading.specs.declared.Answer.the-variants as answer
+use Rattle.reading.specs.declared.Verdict.{Verdict}
+use Rattle.reading.specs.declared.Verdict.the-variants.{Words, No}
 use Rattle.reading.specs.declared.Checked.{Checked}
-use Rattle.reading.specs.declared.Checked.the-variants as check
-use Rattle.reading.specs.declared.Measured.{Measured}
-use Rattle.reading.specs.declared.Measured.the-variants as measure
+use Rattle.reading.specs.declared.Checked.the-variants.{Success, Refusal}
 
--- the answer to a reading: the image's words; or the number and the place of the word tested
-unfoldable pub answerOf : Reading → Answer
-answerOf (accepted t) = answer.Words (imageLength t)
-answerOf (refused e p) = answer.No e p
+-- what reading a rule came to: the image's words; or the number and the place of the word tested
+unfoldable pub verdictOf : Reading → Verdict
+verdictOf (accepted t) = Words (imageLength t)
+verdictOf (refused e p) = No e p
 
 -- "The checking call gives only success or the refusal"
 unfoldable pub checkedReply : Checked → Reply (Unit {0})
-checkedReply check.Accepted = success tt
-checkedReply (check.Refused e) = refusal e
-
--- "the measuring call gives the count"
-unfoldable pub measuredReply : Measured → Reply ℕ
-measuredReply (measure.Words n) = success n
-measuredReply (measure.Refused e) = refusal e
+checkedReply Success = success tt
+checkedReply (Refusal e) = refusal e

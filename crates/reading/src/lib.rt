@@ -1,4 +1,5 @@
 // Reads a rule: one forward pass checks its words and measures its image. Terms, lists and arms are read through each other.
+use language::Answer;
 use language::Head;
 use language::Parts;
 use language::Row;
@@ -7,26 +8,9 @@ ghost use Prim.Native.Nat.{_+_, _*_, _≤_, _<_};
 ghost use lib.ListN.{length};
 ghost use Rattle.language.specs.Kinds.{mostByte};
 ghost use Rattle.language.specs.Read.{second, many, armsOf, opened, term, read};
-ghost use Rattle.language.specs.Calls.{checked, measured};
+ghost use Rattle.language.specs.Calls.{replyOf, checked, measured};
 ghost use Rattle.reading.specs.Steps.{aWord, small, termStep, termsStep, armsStep, arity, closed, countOf, wordsOf, grownOf, joinedOf, builtOf, Roomy};
-ghost use Rattle.reading.specs.Answers.{answerOf, checkedReply, measuredReply};
-
-// The numbers of the refusals. At a head, 4 and 5 come from the table of kinds.
-const NO_WORDS: u8 = 1;
-
-const TOO_MANY_WORDS: u8 = 2;
-
-const NONE_LEFT: u8 = 3;
-
-const WRONG_KIND: u8 = 4;
-
-const OUT_OF_RANGE: u8 = 5;
-
-const TOO_DEEP: u8 = 6;
-
-const UNBOUND: u8 = 7;
-
-const LEFT_OVER: u8 = 8;
+ghost use Rattle.reading.specs.Answers.{verdictOf, checkedReply};
 
 // The words of a variable's passing form, and those that each other form has besides its parts' passing forms and chains.
 const VARIABLE_WORDS: usize = 4;
@@ -51,7 +35,7 @@ const CHAINED_WORDS: usize = 3;
 // What each argument of a constructor of atoms saves: its words in a chain, and what its passing form has besides its carried form.
 const SAVED_WORDS: usize = 6;
 
-// A head's number is its low byte: what is left by this.
+// A head's number is its low byte, the remainder by this.
 const LOW_BYTE: u16 = 256;
 
 // What reading a thing gives: the place after it, whether it is all atoms, and its words in an image (of a term the passing
@@ -68,21 +52,15 @@ enum Count {
 }
 
 // What reading a rule gives: the words of its image; or a refusal's number and the place of the word tested.
-enum Answer {
+enum Verdict {
     Words(usize),
     No(u8, usize),
 }
 
 // The checking call's reply.
 pub enum Checked {
-    Accepted,
-    Refused(u8),
-}
-
-// The measuring call's reply: the words of the image, or a refusal's number.
-pub enum Measured {
-    Words(usize),
-    Refused(u8),
+    Success,
+    Refusal(u8),
 }
 
 // A larger thing: z words more of a part before it and by words of its own; all atoms or not as told.
@@ -135,11 +113,11 @@ fn second_at(s: &[u16], at: usize) -> Count
     ensures { λ r. ⌜ r ≡ countOf (second (now (s .entry)) at) ⌝ }
 {
     if s.len() <= at {
-        return Count::Not(NONE_LEFT, at);
+        return Count::Not(language::NONE_LEFT, at);
     }
     let m = s[at];
     if language::MOST_ARGUMENTS < m {
-        return Count::Not(OUT_OF_RANGE, at);
+        return Count::Not(language::OUT_OF_RANGE, at);
     }
     Count::Is(m, at + 1)
 }
@@ -149,7 +127,7 @@ fn arity_at(s: &[u16], at: usize) -> Count
     ensures { λ r. ⌜ r ≡ countOf (arity (now (s .entry)) at) ⌝ }
 {
     if s.len() <= at {
-        return Count::Not(NONE_LEFT, at);
+        return Count::Not(language::NONE_LEFT, at);
     }
     match language::look(language::AT_ARM, s[at]) {
         Head::Refused(e) => Count::Not(e, at),
@@ -163,10 +141,10 @@ fn term_at(s: &[u16], at: usize, left: usize, bound: usize) -> Step
     ensures { λ r. ⌜ r ≡ termStep (term (now (s .entry)) left bound at) ⌝ }
 {
     if s.len() <= at {
-        return Step::No(NONE_LEFT, at);
+        return Step::No(language::NONE_LEFT, at);
     }
     if left == 0 {
-        return Step::No(TOO_DEEP, at);
+        return Step::No(language::TOO_DEEP, at);
     }
     let w = s[at];
     match language::look(language::AT_TERM, w) {
@@ -188,7 +166,7 @@ fn opened_at(s: &[u16], at: usize, left: usize, bound: usize, low: usize, row: R
             if low < bound {
                 Step::Next(next, true, VARIABLE_WORDS)
             } else {
-                Step::No(UNBOUND, at)
+                Step::No(language::UNBOUND, at)
             }
         }
         Parts::Body => {
@@ -211,7 +189,7 @@ fn opened_at(s: &[u16], at: usize, left: usize, bound: usize, low: usize, row: R
             Step::No(e, p) => Step::No(e, p),
             Step::Next(to, _, z) => grown(arms_at(s, to, left, bound, low), false, z, MATCH_WORDS),
         },
-        Parts::ArityAndBody => Step::No(WRONG_KIND, at),
+        Parts::ArityAndBody => Step::No(language::WRONG_KIND, at),
     }
 }
 
@@ -256,10 +234,10 @@ fn closed_at(s: &[u16], at: usize) -> Step
     ensures { λ r. ⌜ r ≡ termStep (closed (now (s .entry)) at) ⌝ }
 {
     if s.len() == 0 {
-        return Step::No(NO_WORDS, 0);
+        return Step::No(language::NO_WORDS, 0);
     }
     if language::MOST_WORDS < s.len() {
-        return Step::No(TOO_MANY_WORDS, 0);
+        return Step::No(language::TOO_MANY_WORDS, 0);
     }
     term_at(s, at, language::DEEPEST, 0)
 }
@@ -292,16 +270,16 @@ fn closed_first(s: &[u16]) -> Step
 }
 
 // What a sequence of words comes to as a rule.
-fn judge(s: &[u16]) -> Answer
-    ensures { λ r. ⌜ r ≡ answerOf (read (now (s .entry))) ⌝ }
+fn judge(s: &[u16]) -> Verdict
+    ensures { λ r. ⌜ r ≡ verdictOf (read (now (s .entry))) ⌝ }
 {
     match closed_first(s) {
-        Step::No(e, p) => Answer::No(e, p),
+        Step::No(e, p) => Verdict::No(e, p),
         Step::Next(to, _, z) => {
             if to < s.len() {
-                Answer::No(LEFT_OVER, to)
+                Verdict::No(language::LEFT_OVER, to)
             } else {
-                Answer::Words(z + IMAGE_WORDS)
+                Verdict::Words(z + IMAGE_WORDS)
             }
         }
     }
@@ -312,17 +290,17 @@ pub fn check(s: &[u16]) -> Checked
     ensures { λ r. ⌜ checkedReply r ≡ checked (read (now (s .entry))) ⌝ }
 {
     match judge(s) {
-        Answer::No(e, _) => Checked::Refused(e),
-        Answer::Words(_) => Checked::Accepted,
+        Verdict::No(e, _) => Checked::Refusal(e),
+        Verdict::Words(_) => Checked::Success,
     }
 }
 
 // How many words the image of a rule has.
-pub fn measure(s: &[u16]) -> Measured
-    ensures { λ r. ⌜ measuredReply r ≡ measured (read (now (s .entry))) ⌝ }
+pub fn measure(s: &[u16]) -> Answer
+    ensures { λ r. ⌜ replyOf r ≡ measured (read (now (s .entry))) ⌝ }
 {
     match judge(s) {
-        Answer::No(e, _) => Measured::Refused(e),
-        Answer::Words(n) => Measured::Words(n),
+        Verdict::No(e, _) => Answer::Refusal(e),
+        Verdict::Words(n) => Answer::Count(n),
     }
 }

@@ -1,4 +1,4 @@
--- `reading::measure` meets its contract: a projection of what `judge` answers.
+-- `reading::measure` meets its contract: a projection of the verdict of `judge`.
 -- Assumes nothing.
 use Rattle.reading.proofs.Answers.{answers}
 use Rattle.reading.proofs.measure.Statement.{statement}
