@@ -1,0 +1,2 @@
+pub mod Contracts
+pub mod Promises

@@ -1,0 +1,54 @@
+-- What a reader may rely on: demands 1 and 2, and the way from the words lent to demand 3's run, each of whatever outcome the contracts allow.
+use Prim.Native.Nat.{ℕ, _<_, _≤_}
+use mathlib.Core.Path.{_≡_}
+use mathlib.Core.List.{List, _++_}
+use lib.ListN.{length, take, drop}
+use Rattle.language.specs.Term.{rules, images, Term}
+use Rattle.language.specs.Words.{words}
+use Rattle.language.specs.Limits.{Ranged}
+use Rattle.language.specs.Run.{Run, count}
+use Rattle.language.specs.Image.{image, carried}
+use Rattle.language.specs.Read.{read, accepted, refused}
+use Rattle.language.specs.declared.Answer.{Answer}
+use Rattle.language.specs.declared.Answer.the-variants.{Count, Refusal}
+use Rattle.meaning.specs.Promises.{applications, Comes}
+use Rattle.rules.specs.Contracts.{Call, write, Result, Allows}
+
+-- "prove that two outcomes allowed by it are equal": of every public call
+abbrev pub Determined : Type 0
+Determined = (c : Call) (x y : Result c) → Allows c x → Allows c y → x ≡ y
+
+-- what comes of writing the words ws into the output out: the answer, and what the output then holds.
+-- refusing: the refusal of the checks in order; "leaves all that was lent unchanged". no-room: "the lent output is shorter than what is to be
+-- written". writing: "the image fills the front of the output and every later word is unchanged".
+pub data Replied (ws out : List ℕ) : Answer → List ℕ → Type 0 where
+  refusing : {e p : ℕ} → read ws ≡ refused e p → Replied ws out (Refusal e) out
+  no-room : {t : Term} → read ws ≡ accepted t → length out < length (words images (image t)) → Replied ws out (Refusal 9) out
+  writing : {t : Term} {n : ℕ} {o : List ℕ} → read ws ≡ accepted t → n ≡ length (words images (image t)) → n ≤ length out
+      → o ≡ words images (image t) ++ drop n out → Replied ws out (Count n) o
+
+-- demand 1: every sequence of words and every lent output gets its reply, an image or a numbered refusal, and a refusal changes nothing
+abbrev pub Demand1 : Type 0
+Demand1 = (ws out o : List ℕ) (a : Answer) → Allows (write ws out) (a, o) → Replied ws out a o
+
+-- demand 2: an accepted rule's image is written word by word where it fits, and 9 is given only where it is longer than the output
+pub record Written (t : Term) (out o : List ℕ) (a : Answer) : Type 0 where
+  pub fits : length (words images (image t)) ≤ length out → (a ≡ Count (length (words images (image t))))
+      × (o ≡ words images (image t) ++ drop (length (words images (image t))) out)
+  pub longer : a ≡ Refusal 9 → length out < length (words images (image t))
+
+abbrev pub Demand2 : Type 0
+Demand2 = (ws out o : List ℕ) (a : Answer) (t : Term) → read ws ≡ accepted t → Allows (write ws out) (a, o) → Written t out o a
+
+-- from the words lent to demand 3's run: where the rule comes to a value, the words at the front of the output are those of one term in an
+-- image's ranges alone, and that term comes to the value's carried form, with as many lets and matches and the sum's applications
+pub record Front (ws : List ℕ) : Type 0 where
+  pub term : Term
+  pub ranged : Ranged images term
+  pub laid : words images term ≡ ws
+  pub only : (u : Term) → Ranged images u → words images u ≡ ws → u ≡ term
+
+abbrev pub WrittenRuns : Type 0
+WrittenRuns =
+    (ws out o : List ℕ) (n : ℕ) (t v : Term) → read ws ≡ accepted t → (r : Run rules t v) → Allows (write ws out) (Count n, o)
+    → (f : Front (take n o)) × Comes (f .term) (carried v) (applications (count r)) ((count r) .lets) ((count r) .matches)
