@@ -140,7 +140,8 @@ module _ {s : List ℕ} {at to d : ℕ} where
       };
     }
 
-no-arm : {t : Term} {A : Type 0} → Opened ArityAndBody t → A
+-- no term has an arm's head
+pub no-arm : {t : Term} {A : Type 0} → Opened ArityAndBody t → A
 no-arm = elim [ ]
 
 -- The same at a place: how each part that stands there is taken apart, by what the code has tested.
@@ -181,7 +182,6 @@ module _ {s : List ℕ} {at : ℕ} (d : ℕ) where
     pub as-arm : (n ≡ 0 → ⊥) → Unfolds (arms d n) (over 2 then term d then arms d (n - 1)) s at
     as-arm z = record { into = λ ps to k. open-arm z (k .good .0) k }
 
-  -- no term has an arm's head
   pub as-arity : {Q : Part} → Headed ArityAndBody s at → Unfolds (term d) Q s at
   as-arity H = by-head H (λ t to v k. no-arm v)
 

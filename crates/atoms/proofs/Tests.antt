@@ -20,7 +20,7 @@ use Rattle.atoms.proofs.Standing.{first, second, ends-over, ends-then, 
 use Rattle.atoms.proofs.Ways.{ways, headed, skip-var, skip-fun, skip-nil}
 
 -- which forms are no atoms whatever their parts are, and which are
-abbrev Loose : Parts → Type 0
+abbrev pub Loose : Parts → Type 0
 Loose Nothing = ⊥
 Loose Body = ⊥
 Loose FunctionAndArguments = Unit {0}
@@ -29,7 +29,7 @@ Loose CountAndArguments = ⊥
 Loose SubjectAndArms = Unit {0}
 Loose ArityAndBody = Unit {0}
 
-loose : {P : Parts} {t : Term} → Opened P t → Loose P → false ≡ atom t
+pub loose : {P : Parts} {t : Term} → Opened P t → Loose P → false ≡ atom t
 unfolding atom
 loose (o-var h) l = absurd l
 loose (o-fun e h r) l = absurd l
@@ -125,5 +125,16 @@ module _ {s : List ℕ} {at d : ℕ} {r : Found} where
 
   pub is-atom-not : Tells (term d) s at r → r ≡ Other → AtomAt d s at false
   is-atom-not T q = record { is = λ t to k. sym (found-other (atom t) to (sym q ∙ T .tell t to k)) }
+
+-- by the answer; a variable and a function are atoms
+module _ {s : List ℕ} {at d : ℕ} where
+  pub told : {a b : Bool} → AtomAt d s at a → a ≡ b → AtomAt d s at b
+  told A e = record { is = λ t to k. sym e ∙ A .is t to k }
+
+  pub atom-var : Headed Nothing s at → AtomAt d s at true
+  atom-var H = record { is = λ t to k. var-firm (opened (k .good .0) (k .held) H) }
+
+  pub atom-fun : Headed Body s at → AtomAt d s at true
+  atom-fun H = record { is = λ t to k. fun-firm (opened (k .good .0) (k .held) H) }
 
 pub ruleset tests = (ways, tells-ends, tell-var, tell-fun, tell-loose, tell-con, tell-nil, tell-stop, tell-more, is-atom-so, is-atom-not)

@@ -22,6 +22,9 @@ module _ {s : List ℕ} {at : ℕ} where
   pub headed : {d : ℕ} {P Q : Parts} → Parted P d s at → P ≡ Q → Headed Q s at
   headed k e = record { row = k .headed .row; opens = k .headed .opens; parts = k .headed .parts ∙ e }
 
+  pub parted : {d : ℕ} {P Q : Parts} → Parted P d s at → P ≡ Q → Parted Q d s at
+  parted k e = record { headed = headed k e; inside = k .inside; deep = k .deep }
+
   module _ {d : ℕ} where
     -- the head of a term: it opens a row
     pub parts-opened : {x : Head} {r : Row} → Stands (term d) s at → x ≡ headOf atTerm (getD s at 0) → x ≡ Opens r → Parted (r .parts) d s at

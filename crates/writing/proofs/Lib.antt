@@ -1,1 +1,4 @@
 pub mod Puts
+pub mod Jobs
+pub mod Plans
+pub mod Ways

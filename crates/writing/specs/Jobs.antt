@@ -25,18 +25,18 @@ links nil = []
 links (cons t ts) = (0x0201 ∷ 0x0401 ∷ words images (passing t)) ++ links ts
 
 -- What a writer may be asked to do, of terms, lists and arms of at most d levels.
--- passed: the passing form. kept: the carried form of an atom; keeps: of n atoms. chain: the links of n terms. branches: n arms.
--- before: these words, and then a job. after: a job, and then these words. past: a job, of what stands n words further on. then: two jobs.
+-- passed: the passing form. kept: the carried form of an atom; keeps: of n atoms. chained: the links of n terms. branches: n arms.
+-- before: these words, and then a job. after: a job, and then these words. skipped: n words are read, and none is written. next: two jobs.
 infixr 20 _next_
 pub data Job : Type 0 where
   passed : ℕ → Job
   kept : ℕ → Job
   keeps : ℕ → ℕ → Job
-  chain : ℕ → ℕ → Job
+  chained : ℕ → ℕ → Job
   branches : ℕ → ℕ → Job
   before : List ℕ → Job → Job
   after : Job → List ℕ → Job
-  past : ℕ → Job → Job
+  skipped : ℕ → Job
   _next_ : Job → Job → Job
 
 -- what it reads, and the words that it writes
@@ -44,31 +44,31 @@ abbrev pub reads : Job → Part
 reads (passed d) = term d
 reads (kept d) = atomic d
 reads (keeps d n) = atomics d n
-reads (chain d n) = terms d n
+reads (chained d n) = terms d n
 reads (branches d n) = arms d n
 reads (before ws J) = reads J
 reads (after J ws) = reads J
-reads (past n J) = over n then reads J
+reads (skipped n) = over n
 reads (J next K) = reads J then reads K
 
 abbrev pub target : (J : Job) → Thing (reads J) → List ℕ
 target (passed d) t = words images (passing t)
 target (kept d) t = words images (carried t)
 target (keeps d n) ts = wordsᵗ images (carrieds ts)
-target (chain d n) ts = links ts
+target (chained d n) ts = links ts
 target (branches d n) ps = wordsᵃ images (passingᵃ ps)
 target (before ws J) x = ws ++ target J x
 target (after J ws) x = target J x ++ ws
-target (past n J) x = target J (x .1)
+target (skipped n) ws = []
 target (J next K) x = target J (x .0) ++ target K (x .1)
 
 -- "0201 0401 and the term's passing form"
 abbrev pub linked : ℕ → Job
 linked d = before (0x0201 ∷ 0x0401 ∷ []) (passed d)
 
--- a call of a passing form, which is handed the continuation k: "0401, its body's passing form", k
+-- a call of a passing form, which is handed a variable, whose word is w: "0401, its body's passing form, 0901"
 abbrev pub handed : ℕ → ℕ → Job
-handed d k = before (0x0401 ∷ []) (after (passed d) (head 9 k ∷ []))
+handed d w = before (0x0401 ∷ []) (after (passed d) (w ∷ []))
 
 -- what J reads stands in s at `at`, and there is room in o from p on for what is to be written of it
 pub record Ready (J : Job) (o : List ℕ) (p : ℕ) (s : List ℕ) (at : ℕ) : Type 0 where
