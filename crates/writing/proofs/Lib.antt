@@ -2,3 +2,4 @@ pub mod Puts
 pub mod Jobs
 pub mod Plans
 pub mod Ways
+pub mod Whole

@@ -2,12 +2,11 @@
 use Prim.Native.Nat.{ℕ, _+_, _≤_}
 use mathlib.Core.Path.{_≡_}
 use mathlib.Core.List.{List, [], _∷_, _++_}
-use lib.ListN.{length, drop}
+use lib.ListN.{length}
 use lib.Seq.{sets}
-use Rattle.language.specs.Term.{rules, images, Term, Terms, nil, cons}
+use Rattle.language.specs.Term.{images, Term, Terms, nil, cons}
 use Rattle.language.specs.Words.{head, words, wordsᵗ, wordsᵃ}
-use Rattle.language.specs.Image.{passing, carried, carrieds, passingᵃ, image}
-use Rattle.language.specs.Limits.{Rule}
+use Rattle.language.specs.Image.{passing, carried, carrieds, passingᵃ}
 use Rattle.atoms.specs.Standing.{Part, term, terms, arms, atomic, atomics, over, _then_, Thing, Seen, Ends}
 
 -- there is room for the words ws in o from the place p on

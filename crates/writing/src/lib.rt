@@ -10,6 +10,7 @@ ghost use mathlib.Core.Bool.{true, false};
 ghost use Rattle.language.specs.declared.Parts.the-variants.{Body, FunctionAndArguments, BoundAndBody, CountAndArguments, SubjectAndArms};
 ghost use Rattle.atoms.specs.Standing.{AtomAt, Parted};
 ghost use Rattle.writing.specs.Jobs.{Room, Put, passed, kept, keeps, chained, branches, linked, handed, Ready, Done};
+ghost use Rattle.writing.specs.Written.{SomeWritable, ImageWritten};
 
 // A source variable's index, and a continuation variable's: no function takes one for the other.
 pub struct Source(pub u8);
@@ -283,4 +284,15 @@ fn put_arms(out: &mut [u16], pos: usize, s: &[u16], at: usize, depth: usize, cou
     let p = put_copied(out, pos, s, at);
     let b = put_handed(out, p, s, at + HEAD_AND_COUNT, depth, Continuation(1));
     put_arms(out, b.pos, s, b.at, depth, count - 1)
+}
+
+// The image of the rule s, at the front of the output; every later word of the output is unchanged. Returns the image's word count.
+pub fn write_image(out: &mut [u16], s: &[u16]) -> usize
+    requires { ⌜ SomeWritable (now out) (now s) ⌝ }
+    ensures { λ r. ⌜ ImageWritten (now (out .entry)) (now (s .entry)) (now (out .exit)) r ⌝ }
+{
+    let p = put1(out, 0, CALL_OF_ONE);
+    let t = put_passing(out, p, s, 0, language::DEEPEST);
+    let q = put1(out, t.pos, ADDED_FUNCTION);
+    put_continuation(out, q, Continuation(0))
 }
