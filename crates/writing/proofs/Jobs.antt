@@ -1,0 +1,80 @@
+-- Jobs done one after another, and a job that is done as another: what is ready for the next step, and what was done when all steps were.
+-- Assumes nothing.
+use Prim.Native.Nat.{ℕ, _+_}
+use mathlib.Core.Path.{_≡_, refl}
+use mathlib.Core.List.{List, _++_}
+use Rattle.atoms.specs.Standing.{Thing, Seen}
+use Rattle.atoms.proofs.Standing.{first, second, ends-over, ends-then}
+use Rattle.writing.specs.Jobs.{Room, Put, Job, before, after, skipped, _next_, reads, target, Ready, Done}
+use Rattle.writing.proofs.Puts.{put-none, put-then, room-first, room-after, room-as, put-as}
+
+module _ {s : List ℕ} {at : ℕ} {o : List ℕ} {p : ℕ} where
+  -- words, and then a job
+  module _ {ws : List ℕ} {J : Job} where
+    pub before-room : Ready (before ws J) o p s at → Room o p ws
+    before-room r = room-first ws (target J (r .thing)) (r .room)
+
+    pub before-ready : {o′ : List ℕ} {i : ℕ} → Ready (before ws J) o p s at → Put ws o p o′ i → Ready J o′ i s at
+    before-ready r f = record { thing = r .thing; to = r .to; seen = r .seen; room = room-after (r .room) f }
+
+    pub before-done : {o′ o″ : List ℕ} {i to end : ℕ} → Put ws o p o′ i → Done J o′ i s at o″ to end → Done (before ws J) o p s at o″ to end
+    before-done f D = record { ends = D .ends; puts = λ x e k. put-then f (D .puts x e k) }
+
+    -- a job, and then words
+    pub after-ready : Ready (after J ws) o p s at → Ready J o p s at
+    after-ready r = record { thing = r .thing; to = r .to; seen = r .seen; room = room-first (target J (r .thing)) ws (r .room) }
+
+    pub after-room : {o′ : List ℕ} {to i : ℕ} → Ready (after J ws) o p s at → Done J o p s at o′ to i → Room o′ i ws
+    after-room r D = room-after (r .room) (D .puts (r .thing) (r .to) (r .seen))
+
+    pub after-done : {o′ o″ : List ℕ} {to i end : ℕ} → Done J o p s at o′ to i → Put ws o′ i o″ end → Done (after J ws) o p s at o″ to end
+    after-done D f = record { ends = D .ends; puts = λ x e k. put-then (D .puts x e k) f }
+
+  -- one job, and then another
+  module _ {J K : Job} where
+    pub next-first : Ready (J next K) o p s at → Ready J o p s at
+    next-first r = record {
+      thing = r .thing .0;
+      to = _;
+      seen = first (r .seen);
+      room = room-first (target J (r .thing .0)) (target K (r .thing .1)) (r .room);
+    }
+
+    pub next-second : {o′ : List ℕ} {i j : ℕ} → Ready (J next K) o p s at → Done J o p s at o′ i j → Ready K o′ j s i
+    next-second r D = record {
+      thing = r .thing .1;
+      to = r .to;
+      seen = second (r .seen) (D .ends);
+      room = room-after (r .room) (D .puts (r .thing .0) _ (first (r .seen)));
+    }
+
+    pub next-done : {o′ o″ : List ℕ} {i j to end : ℕ} → Done J o p s at o′ i j → Done K o′ j s i o″ to end → Done (J next K) o p s at o″ to end
+    next-done D E = record {
+      ends = ends-then (D .ends) (E .ends);
+      puts = λ x e k. put-then (D .puts (x .0) _ (first k)) (E .puts (x .1) e (second k (D .ends)));
+    }
+
+  -- words that are read and not written
+  pub skipped-done : (n : ℕ) {to : ℕ} → to ≡ at + n → Done (skipped n) o p s at o to p
+  skipped-done n e = record { ends = ends-over n e; puts = λ x i k. put-none o p }
+
+-- x, which J reads, as something that K reads, of which the same words are written
+pub record As (J K : Job) (s : List ℕ) (at to : ℕ) (x : Thing (reads J)) : Type 0 where
+  pub thing : Thing (reads K)
+  pub seen : Seen (reads K) s at to thing
+  pub same : target J x ≡ target K thing
+
+-- the job J, of what stands at `at`, can be done as the job K
+pub record Plan (J K : Job) (s : List ℕ) (at : ℕ) : Type 0 where
+  pub plan : (x : Thing (reads J)) (to : ℕ) → Seen (reads J) s at to x → As J K s at to x
+
+module _ {J K : Job} {s : List ℕ} {at : ℕ} (P : Plan J K s at) where
+  pub ready-as : {o : List ℕ} {p : ℕ} → Ready J o p s at → Ready K o p s at
+  ready-as r = let y = P .plan (r .thing) (r .to) (r .seen) in
+      record { thing = y .thing; to = r .to; seen = y .seen; room = room-as (y .same) (r .room) }
+
+  pub done-as : {o o′ : List ℕ} {p to end : ℕ} → Done K o p s at o′ to end → Done J o p s at o′ to end
+  done-as D = record {
+    ends = record { end = λ x e k. let y = P .plan x e k in D .ends .end (y .thing) e (y .seen) };
+    puts = λ x e k. let y = P .plan x e k in put-as (y .same) (D .puts (y .thing) e (y .seen));
+  }

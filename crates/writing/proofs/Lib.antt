@@ -1,0 +1,5 @@
+pub mod Puts
+pub mod Jobs
+pub mod Plans
+pub mod Ways
+pub mod Whole

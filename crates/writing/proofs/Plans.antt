@@ -1,0 +1,247 @@
+-- How each form is written, step by step: the plan of each writer. What is read is taken apart as those who skip do it; that the steps write the
+-- form's words is an equation of words for each form.
+-- Assumes nothing.
+use Prim.Native.Nat.{ℕ, zero, suc, _+_, _-_, _%_, _≤_, _<_}
+use mathlib.Core.Path.{_≡_, refl, sym, ap, _∙_}
+use mathlib.Core.Bool.{Bool, true, false, _&&_, false≢true}
+use mathlib.Core.List.{List, [], _∷_, _++_, append-assoc, append-nil}
+use native.Mathlib.Omega.{arith}
+use lib.ListN.{length, getD}
+use Rattle.language.specs.Term.{rules, images, Term, Terms, Arms, var, kvar, fun, call, bind, con, cases, nil, cons, none, arm, size, sizeᵃ}
+use Rattle.language.specs.Words.{head, words, wordsᵗ, wordsᵃ}
+use Rattle.language.specs.Run.{atom, atoms}
+use Rattle.language.specs.Image.{passing, carried, carrieds, chain, passingᵃ, downto, calling, making}
+use Rattle.language.specs.Limits.{Rangedᵗ, Rangedᵃ, r-nil, r-cons, r-none, r-arm}
+use Rattle.language.specs.declared.Parts.{Parts}
+use Rattle.language.specs.declared.Parts.the-variants.{Nothing, Body, FunctionAndArguments, BoundAndBody, CountAndArguments, SubjectAndArms, ArityAndBody}
+use Rattle.language.proofs.Forms.{passing-atom, passing-build}
+use Rattle.language.proofs.Places.{first-word, next-words}
+use Rattle.atoms.specs.Standing.{term, terms, arms, atomic, atomics, over, _then_, Thing, Headed, Seen, AtomAt}
+use Rattle.atoms.proofs.Opened.{Opened, o-var, o-fun, o-call, o-bind, o-con, o-cases, opened}
+use Rattle.atoms.proofs.Standing.{Some, open-var, open-fun, open-call, open-bind, open-con, open-cases, open-nil, open-cons, open-none, open-arm, no-arm}
+use Rattle.atoms.proofs.Tests.{Loose, loose}
+use Rattle.writing.specs.Jobs.{Job, passed, kept, keeps, chained, branches, before, after, skipped, _next_, linked, handed, reads, target, links}
+use Rattle.writing.proofs.Jobs.{As, Plan}
+
+-- "A chain is, for each of its terms in order, 0201 0401 and the term's passing form; then 0201 and the ending."
+words-chain : (ts : Terms) (e : Term) → 0x0201 ∷ words images (chain ts e) ≡ links ts ++ (0x0201 ∷ words images e)
+unfolding words passing links
+words-chain nil e = refl
+words-chain (cons t ts) e = simp (append-nil, words-chain ts e, append-assoc)
+
+size-carrieds : (ts : Terms) → size (carrieds ts) ≡ size ts
+unfolding size carrieds
+size-carrieds nil = refl
+size-carrieds (cons t ts) = ap suc (size-carrieds ts)
+
+size-arms : (ps : Arms) → sizeᵃ (passingᵃ ps) ≡ sizeᵃ ps
+unfolding sizeᵃ passingᵃ
+size-arms none = refl
+size-arms (arm t n b ps) = ap suc (size-arms ps)
+
+-- the words of the other passing forms and of the carried forms, in the runs in which they are written
+atom-words : (t : Term) → atom t ≡ true → words images (passing t) ≡ (0x0201 ∷ 0x0401 ∷ head 9 0 ∷ []) ++ words images (carried t)
+unfolding words
+atom-words t e = ap (words images) (passing-atom t e) ∙ ap (λ (l : List ℕ). 0x0201 ∷ 0x0401 ∷ head 9 0 ∷ l) (append-nil (words images (carried t)))
+
+call-words : (f : Term) (ps : Terms) {n : ℕ} → size ps ≡ n → words images (passing (call f ps)) ≡ links (cons f ps) ++ (0x0201 ∷ words images (calling n))
+unfolding words passing
+call-words f ps e =
+    words-chain (cons f ps) (calling (size ps)) ∙ ap (λ (m : ℕ). links (cons f ps) ++ (0x0201 ∷ words images (calling m))) e
+
+build-words : (t : ℕ) (ps : Terms) {m n : ℕ} → atoms ps ≡ false → t ≡ m → size ps ≡ n
+    → words images (passing (con t ps)) ≡ links ps ++ (0x0201 ∷ words images (making m n))
+unfolding words
+build-words t ps {m} a q e =
+    ap (words images) (passing-build t ps a) ∙ words-chain ps (making t (size ps))
+    ∙ ap (λ (i : ℕ). links ps ++ (0x0201 ∷ words images (making i (size ps)))) q
+    ∙ ap (λ (i : ℕ). links ps ++ (0x0201 ∷ words images (making m i))) e
+
+bind-words : (m b : Term) → words images (passing (bind m b))
+    ≡ (0x0201 ∷ 0x0401 ∷ words images (passing m)) ++ ((0x0201 ∷ 0x0500 ∷ head 9 0 ∷ []) ++ (0x0401 ∷ (words images (passing b) ++ (head 9 1 ∷ []))))
+unfolding words passing
+bind-words m b = ap (λ (l : List ℕ). 0x0201 ∷ 0x0401 ∷ (words images (passing m) ++ l))
+    (append-nil (0x0201 ∷ 0x0500 ∷ head 9 0 ∷ 0x0401 ∷ (words images (passing b) ++ (head 9 1 ∷ []))))
+
+cases-words : (m : Term) (ps : Arms) {w : ℕ} → w ≡ head 7 (sizeᵃ ps) → words images (passing (cases m ps))
+    ≡ (0x0201 ∷ 0x0401 ∷ words images (passing m)) ++ ((0x0201 ∷ w ∷ head 9 0 ∷ []) ++ wordsᵃ images (passingᵃ ps))
+unfolding words passing
+cases-words m ps e = ap (λ (l : List ℕ). 0x0201 ∷ 0x0401 ∷ (words images (passing m) ++ l))
+    (append-nil (0x0201 ∷ head 7 (sizeᵃ (passingᵃ ps)) ∷ head 9 0 ∷ wordsᵃ images (passingᵃ ps))
+    ∙ ap (λ (w : ℕ). 0x0201 ∷ w ∷ head 9 0 ∷ wordsᵃ images (passingᵃ ps)) (ap (head 7) (size-arms ps) ∙ sym e))
+
+fun-words : (o a : ℕ) (b : Term) {w : ℕ} → w ≡ head (2 + o) (a + 0)
+    → words images (carried (fun o a b)) ≡ ((w + 1) ∷ []) ++ (0x0401 ∷ (words images (passing b) ++ (head 9 0 ∷ [])))
+unfolding words carried
+fun-words o a b e = ap (λ (w : ℕ). w ∷ 0x0401 ∷ (words images (passing b) ++ (head 9 0 ∷ []))) (omega arith)
+
+con-words : (t : ℕ) (ps : Terms) {w n : ℕ} → w ≡ head 6 t → n ≡ size ps → words images (carried (con t ps)) ≡ (w ∷ n ∷ []) ++ wordsᵗ images (carrieds ps)
+unfolding words carried
+con-words t ps e q = let z = size-carrieds ps in cc
+
+-- an atom among the terms
+pub loosened : {s : List ℕ} {at to d : ℕ} {t : Term} → Seen (atomic d) s at to t → Seen (term d) s at to t
+loosened k = record { good = (k .good .0, k .good .1); held = k .held }
+
+loosenedᵗ : {s : List ℕ} {at to d n : ℕ} {ts : Terms} → Seen (atomics d n) s at to ts → Seen (terms d n) s at to ts
+loosenedᵗ k = record { good = (k .good .0, k .good .1, k .good .2); held = k .held }
+
+both-true : (a b : Bool) → a && b ≡ true → (a ≡ true) × (b ≡ true)
+both-true true b e = (refl, e)
+both-true false b e = absurd (false≢true e)
+
+-- what stands at a place, as the plan of its writer has it
+module _ {s : List ℕ} {at to d : ℕ} where
+  as-call : {t : Term} → Opened FunctionAndArguments t → Seen (term d) s at to t
+      → As (passed d) (skipped 1 next after (chained (d - 1) (getD s at 0 % 256 + 1)) (0x0201 ∷ words images (calling (getD s at 0 % 256)))) s at to t
+  unfolding words open-call
+  as-call (o-call {f} {ps} h r rs) k = let y = open-call (o-call h r rs) k in
+      record { thing = y .thing; seen = y .seen; same = call-words f ps (omega (arith, first-word (k .held))) }
+
+  as-let : {t : Term} → Opened BoundAndBody t → Seen (term d) s at to t
+      → As (passed d) (skipped 1 next linked (d - 1) next before (0x0201 ∷ 0x0500 ∷ head 9 0 ∷ []) (handed (d - 1) (head 9 1))) s at to t
+  unfolding open-bind
+  as-let (o-bind {m} {b} r r′) k = let y = open-bind (o-bind r r′) k in record { thing = y .thing; seen = y .seen; same = bind-words m b }
+
+  as-build : {t : Term} {n : ℕ} → n ≡ getD s (at + 1) 0 → atom t ≡ false → Opened CountAndArguments t → Seen (term d) s at to t
+      → As (passed d) (skipped 2 next after (chained (d - 1) n) (0x0201 ∷ words images (making (getD s at 0 % 256) n))) s at to t
+  unfolding words atom open-con
+  as-build e a (o-con {t} {ps} h l rs) k = let y = open-con e (o-con h l rs) k in record {
+    thing = y .thing;
+    seen = y .seen;
+    same = build-words t ps a (omega (arith, first-word (k .held))) (sym (e ∙ first-word (next-words (k .held))));
+  }
+
+  as-match : {t : Term} → Opened SubjectAndArms t → Seen (term d) s at to t
+      → As (passed d) (skipped 1 next linked (d - 1) next before (0x0201 ∷ getD s at 0 ∷ head 9 0 ∷ []) (branches (d - 1) (getD s at 0 % 256))) s at to t
+  unfolding words open-cases
+  as-match (o-cases {m} {ps} h r rs) k = let y = open-cases (o-cases h r rs) k in
+      record { thing = y .thing; seen = y .seen; same = cases-words m ps (first-word (k .held)) }
+
+  -- the carried forms
+  as-var : {t : Term} → Opened Nothing t → Seen (atomic d) s at to t → As (kept d) (after (skipped 1) (head 1 (getD s at 0 % 256) ∷ [])) s at to t
+  unfolding words carried open-var
+  as-var (o-var {i} h) k = let y = open-var (o-var h) (loosened k) in
+      record { thing = y .thing; seen = y .seen; same = ap (λ (j : ℕ). head 1 j ∷ []) (omega (arith, first-word (k .held))) }
+
+  as-function : {t : Term} → Opened Body t → Seen (atomic d) s at to t
+      → As (kept d) (skipped 1 next before ((getD s at 0 + 1) ∷ []) (handed (d - 1) (head 9 0))) s at to t
+  unfolding words open-fun
+  as-function (o-fun {o} {a} {b} e h r) k = let y = open-fun (o-fun e h r) (loosened k) in
+      record { thing = y .thing; seen = y .seen; same = fun-words o a b (first-word (k .held)) }
+
+  as-constructor : {t : Term} {n : ℕ} → n ≡ getD s (at + 1) 0 → Opened CountAndArguments t → Seen (atomic d) s at to t
+      → As (kept d) (skipped 2 next before (getD s at 0 ∷ getD s (at + 1) 0 ∷ []) (keeps (d - 1) n)) s at to t
+  unfolding words atom open-con
+  as-constructor e (o-con {t} {ps} h l rs) k = let y = open-con e (o-con h l rs) (loosened k) in record {
+    thing = y .thing;
+    seen = record {
+      good = (y .seen .good .0, (y .seen .good .1 .0, y .seen .good .1 .1, y .seen .good .1 .2, k .good .2));
+      held = y .seen .held;
+    };
+    same = con-words t ps (first-word (k .held)) (first-word (next-words (k .held)));
+  }
+
+  -- n things, where n is 0 and where it is not
+  module _ {n : ℕ} where
+    no-links : {ts : Terms} → n ≡ 0 → Rangedᵗ rules ts → Seen (terms d n) s at to ts → As (chained d n) (skipped 0) s at to ts
+    unfolding links open-nil size
+    no-links z r-nil k = let y = open-nil z r-nil k in record { thing = y .thing; seen = y .seen; same = refl }
+    no-links z (r-cons r rs) k = absurd (omega (arith, k .good .2))
+
+    more-links : {ts : Terms} → (n ≡ 0 → ⊥) → Rangedᵗ rules ts → Seen (terms d n) s at to ts → As (chained d n) (linked d next chained d (n - 1)) s at to ts
+    unfolding links open-cons
+    more-links z r-nil k = absurd (z (sym (k .good .2)))
+    more-links z (r-cons r rs) k = let y = open-cons z (r-cons r rs) k in record { thing = y .thing; seen = y .seen; same = refl }
+
+    no-atoms : {ts : Terms} → n ≡ 0 → Rangedᵗ rules ts → Seen (atomics d n) s at to ts → As (keeps d n) (skipped 0) s at to ts
+    unfolding words carried open-nil size
+    no-atoms z r-nil k = let y = open-nil z r-nil (loosenedᵗ k) in record { thing = y .thing; seen = y .seen; same = refl }
+    no-atoms z (r-cons r rs) k = absurd (omega (arith, k .good .2))
+
+    more-atoms : {ts : Terms} → (n ≡ 0 → ⊥) → Rangedᵗ rules ts → Seen (atomics d n) s at to ts → As (keeps d n) (kept d next keeps d (n - 1)) s at to ts
+    unfolding words carried atom open-cons
+    more-atoms z r-nil k = absurd (z (sym (k .good .2)))
+    more-atoms z (r-cons {t} {ts} r rs) k =
+        let y = open-cons z (r-cons r rs) (loosenedᵗ k) in
+        let a = both-true (atom t) (atoms ts) (k .good .3) in
+        let g = y .seen .good in record {
+          thing = y .thing;
+          seen = record { good = ((g .0 .0, g .0 .1, a .0), (g .1 .0, g .1 .1, g .1 .2, a .1)); held = y .seen .held };
+          same = refl;
+        }
+
+    no-arms : {ps : Arms} → n ≡ 0 → Rangedᵃ rules ps → Seen (arms d n) s at to ps → As (branches d n) (skipped 0) s at to ps
+    unfolding words passingᵃ open-none sizeᵃ
+    no-arms z r-none k = let y = open-none z r-none k in record { thing = y .thing; seen = y .seen; same = refl }
+    no-arms z (r-arm h l r rs) k = absurd (omega (arith, k .good .2))
+
+    more-arms : {ps : Arms} → (n ≡ 0 → ⊥) → Rangedᵃ rules ps → Seen (arms d n) s at to ps
+        → As (branches d n) (skipped 2 next before (getD s at 0 ∷ getD s (at + 1) 0 ∷ []) (handed d (head 9 1) next branches d (n - 1))) s at to ps
+    unfolding words passingᵃ open-arm
+    more-arms z r-none k = absurd (z (sym (k .good .2)))
+    more-arms z (r-arm {t} {n = m} {b} {ps} h l r rs) k =
+        let y = open-arm z (r-arm h l r rs) k in let e = first-word (k .held) in let q = first-word (next-words (k .held)) in
+        record { thing = y .thing; seen = y .seen; same = cc }
+
+-- the plan of each writer, by what the code has tested
+module _ {s : List ℕ} {at d : ℕ} where
+  pub plan-atom : AtomAt d s at true → Plan (passed d) (before (0x0201 ∷ 0x0401 ∷ head 9 0 ∷ []) (kept d)) s at
+  plan-atom A = record {
+    plan = λ t to k.
+      let a = sym (A .is t to k) in
+      record { thing = t; seen = record { good = (k .good .0, k .good .1, a); held = k .held }; same = atom-words t a };
+  }
+
+  pub plan-call : Headed FunctionAndArguments s at
+      → Plan (passed d) (skipped 1 next after (chained (d - 1) (getD s at 0 % 256 + 1)) (0x0201 ∷ words images (calling (getD s at 0 % 256)))) s at
+  plan-call H = record { plan = λ t to k. as-call (opened (k .good .0) (k .held) H) k }
+
+  pub plan-let : Headed BoundAndBody s at
+      → Plan (passed d) (skipped 1 next linked (d - 1) next before (0x0201 ∷ 0x0500 ∷ head 9 0 ∷ []) (handed (d - 1) (head 9 1))) s at
+  plan-let H = record { plan = λ t to k. as-let (opened (k .good .0) (k .held) H) k }
+
+  pub plan-build : {n : ℕ} → Headed CountAndArguments s at → n ≡ getD s (at + 1) 0 → AtomAt d s at false
+      → Plan (passed d) (skipped 2 next after (chained (d - 1) n) (0x0201 ∷ words images (making (getD s at 0 % 256) n))) s at
+  plan-build H e A = record { plan = λ t to k. as-build e (sym (A .is t to k)) (opened (k .good .0) (k .held) H) k }
+
+  pub plan-match : Headed SubjectAndArms s at
+      → Plan (passed d) (skipped 1 next linked (d - 1) next before (0x0201 ∷ getD s at 0 ∷ head 9 0 ∷ []) (branches (d - 1) (getD s at 0 % 256))) s at
+  plan-match H = record { plan = λ t to k. as-match (opened (k .good .0) (k .held) H) k }
+
+  pub plan-var : Headed Nothing s at → Plan (kept d) (after (skipped 1) (head 1 (getD s at 0 % 256) ∷ [])) s at
+  plan-var H = record { plan = λ t to k. as-var (opened (k .good .0) (k .held) H) k }
+
+  pub plan-function : Headed Body s at → Plan (kept d) (skipped 1 next before ((getD s at 0 + 1) ∷ []) (handed (d - 1) (head 9 0))) s at
+  plan-function H = record { plan = λ t to k. as-function (opened (k .good .0) (k .held) H) k }
+
+  pub plan-constructor : {n : ℕ} → Headed CountAndArguments s at → n ≡ getD s (at + 1) 0
+      → Plan (kept d) (skipped 2 next before (getD s at 0 ∷ getD s (at + 1) 0 ∷ []) (keeps (d - 1) n)) s at
+  plan-constructor H e = record { plan = λ t to k. as-constructor e (opened (k .good .0) (k .held) H) k }
+
+  module _ {n : ℕ} where
+    pub plan-no-links : n ≡ 0 → Plan (chained d n) (skipped 0) s at
+    plan-no-links z = record { plan = λ ts to k. no-links z (k .good .0) k }
+
+    pub plan-links : (n ≡ 0 → ⊥) → Plan (chained d n) (linked d next chained d (n - 1)) s at
+    plan-links z = record { plan = λ ts to k. more-links z (k .good .0) k }
+
+    pub plan-no-atoms : n ≡ 0 → Plan (keeps d n) (skipped 0) s at
+    plan-no-atoms z = record { plan = λ ts to k. no-atoms z (k .good .0) k }
+
+    pub plan-atoms : (n ≡ 0 → ⊥) → Plan (keeps d n) (kept d next keeps d (n - 1)) s at
+    plan-atoms z = record { plan = λ ts to k. more-atoms z (k .good .0) k }
+
+    pub plan-no-arms : n ≡ 0 → Plan (branches d n) (skipped 0) s at
+    plan-no-arms z = record { plan = λ ps to k. no-arms z (k .good .0) k }
+
+    pub plan-arms : (n ≡ 0 → ⊥)
+        → Plan (branches d n) (skipped 2 next before (getD s at 0 ∷ getD s (at + 1) 0 ∷ []) (handed d (head 9 1) next branches d (n - 1))) s at
+    plan-arms z = record { plan = λ ps to k. more-arms z (k .good .0) k }
+
+  -- where no term, or no atom, can stand
+  pub plan-arity : Headed ArityAndBody s at → Plan (passed d) (skipped 0) s at
+  plan-arity H = record { plan = λ t to k. no-arm (opened (k .good .0) (k .held) H) }
+
+  pub plan-loose : {P : Parts} → Headed P s at → Loose P → Plan (kept d) (skipped 0) s at
+  plan-loose H l = record { plan = λ t to k. absurd (false≢true (loose (opened (k .good .0) (k .held) H) l ∙ k .good .2)) }
