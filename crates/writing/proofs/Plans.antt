@@ -189,8 +189,8 @@ module _ {s : List ℕ} {at d : ℕ} where
   pub plan-atom : AtomAt d s at true → Plan (passed d) (before (0x0201 ∷ 0x0401 ∷ head 9 0 ∷ []) (kept d)) s at
   plan-atom A = record {
     plan = λ t to k.
-      let a = sym (A .is t to k) in
-      record { thing = t; seen = record { good = (k .good .0, k .good .1, a); held = k .held }; same = atom-words t a };
+        let a = sym (A .is t to k) in
+        record { thing = t; seen = record { good = (k .good .0, k .good .1, a); held = k .held }; same = atom-words t a };
   }
 
   pub plan-call : Headed FunctionAndArguments s at

@@ -52,8 +52,8 @@ module _ {o s : List ℕ} where
     fronted = record {
       count = λ t W. put W .next ∙ zero-add _ ∙ ap length (sym (image-words t));
       output = λ t W.
-        put W .holds ∙ sets-eq (target imaged t) o 0 (omega (arith, W .room, ap length (image-words t)))
-        ∙ ap (λ (k : ℕ). target imaged t ++ drop k o) (zero-add (length (target imaged t))) ∙ ap (λ (l : List ℕ). l ++ drop (length l) o) (sym (image-words t));
+          put W .holds ∙ sets-eq (target imaged t) o 0 (omega (arith, W .room, ap length (image-words t)))
+          ∙ ap (λ (k : ℕ). target imaged t ++ drop k o) (zero-add (length (target imaged t))) ∙ ap (λ (l : List ℕ). l ++ drop (length l) o) (sym (image-words t));
     }
 
   pub image-room : SomeWritable o s → Room o 0 (0x0401 ∷ [])

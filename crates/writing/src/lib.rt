@@ -19,11 +19,17 @@ pub struct Continuation(pub u8);
 
 // The head words that an image adds. A variable's index, or a call's arguments, are added to its head.
 const SOURCE: u16 = 0x0100;
+
 const ADDED_FUNCTION: u16 = 0x0201;
+
 const CALL: u16 = 0x0400;
+
 const CALL_OF_ONE: u16 = 0x0401;
+
 const LET: u16 = 0x0500;
+
 const CONSTRUCTOR: u16 = 0x0600;
+
 const CONTINUATION: u16 = 0x0900;
 
 // The words before the parts of a constructor and before the body of an arm: a head, and a count.
@@ -201,7 +207,14 @@ fn put_link(out: &mut [u16], pos: usize, s: &[u16], at: usize, depth: usize) -> 
 }
 
 // A call of the passing form of the term at `at`, which is handed k.
-fn put_handed(out: &mut [u16], pos: usize, s: &[u16], at: usize, depth: usize, k: Continuation) -> Places
+fn put_handed(
+    out: &mut [u16],
+    pos: usize,
+    s: &[u16],
+    at: usize,
+    depth: usize,
+    k: Continuation,
+) -> Places
     requires { ⌜ Ready (handed depth (head 9 (k .0))) (now out) pos (now s) at ⌝ }
     ensures { λ r. ⌜ Done (handed depth (head 9 (k .0))) (now (out .entry)) pos (now (s .entry)) at (now (out .exit)) (r .at) (r .pos) ⌝ }
 {
@@ -250,7 +263,14 @@ fn put_constructor(out: &mut [u16], pos: usize, s: &[u16], at: usize, depth: usi
 }
 
 // The carried forms of the `count` atoms at `at`.
-fn put_carrieds(out: &mut [u16], pos: usize, s: &[u16], at: usize, depth: usize, count: usize) -> Places
+fn put_carrieds(
+    out: &mut [u16],
+    pos: usize,
+    s: &[u16],
+    at: usize,
+    depth: usize,
+    count: usize,
+) -> Places
     requires { ⌜ Ready (keeps depth count) (now out) pos (now s) at ⌝ }
     ensures { λ r. ⌜ Done (keeps depth count) (now (out .entry)) pos (now (s .entry)) at (now (out .exit)) (r .at) (r .pos) ⌝ }
 {
@@ -262,7 +282,14 @@ fn put_carrieds(out: &mut [u16], pos: usize, s: &[u16], at: usize, depth: usize,
 }
 
 // The chain over the `count` terms at `at`, without its end.
-fn put_chain(out: &mut [u16], pos: usize, s: &[u16], at: usize, depth: usize, count: usize) -> Places
+fn put_chain(
+    out: &mut [u16],
+    pos: usize,
+    s: &[u16],
+    at: usize,
+    depth: usize,
+    count: usize,
+) -> Places
     requires { ⌜ Ready (chained depth count) (now out) pos (now s) at ⌝ }
     ensures { λ r. ⌜ Done (chained depth count) (now (out .entry)) pos (now (s .entry)) at (now (out .exit)) (r .at) (r .pos) ⌝ }
 {

@@ -1,0 +1,112 @@
+-- The promises of specs/Promises.antt: an outcome is what the definition says it is, so the definition's cases are the outcome's.
+-- Assumes nothing.
+use Prim.Native.Nat.{ℕ, _+_, _<_, _≤_}
+use mathlib.Core.Path.{_≡_, refl, sym, ap, ap₂, _∙_, subst}
+use mathlib.Core.Bool.{Bool, true, false, cond}
+use mathlib.Core.List.{List, _++_}
+use native.Mathlib.Omega.{arith}
+use lib.Dec.{ltb}
+use lib.ListN.{length, take, drop}
+use lib.Seq.{take-at}
+use borrow.Author.Tests.{ltb-true, ltb-false}
+use Rattle.language.specs.Term.{rules, images, Term}
+use Rattle.language.specs.Words.{words}
+use Rattle.language.specs.Limits.{Ranged}
+use Rattle.language.specs.Run.{Run, count}
+use Rattle.language.specs.Image.{image, carried}
+use Rattle.language.specs.Read.{Reading, accepted, refused, read}
+use Rattle.language.specs.Calls.{Reply, Outcome, success, refusal, replyOf, told, filled, written}
+use Rattle.language.specs.declared.Answer.{Answer}
+use Rattle.language.specs.declared.Answer.the-variants.{Count, Refusal}
+use Rattle.trust.proofs.Accepted.{accepted-rule}
+use Rattle.trust.proofs.Ranges.{images-in-range}
+use Rattle.trust.proofs.Unique.{words-determine}
+use Rattle.meaning.specs.Promises.{applications, Comes}
+use Rattle.meaning.proofs.Promises.{demand3-of-words}
+use Rattle.reading.proofs.Answers.{same-checked, same-answer}
+use Rattle.rules.specs.Contracts.{Call, check, measure, write, pack, unpack, Result, Allows}
+use Rattle.rules.specs.Promises.{Determined, Replied, refusing, no-room, writing, Demand1, Written, Demand2, Front, WrittenRuns}
+
+never : {C : Type 0} → _≡_ {A = ℕ} 0 1 → C
+never z = absurd (omega arith)
+
+-- an answer with an output is determined by what they tell
+same-told : {o : Outcome ℕ} (x y : Answer × List ℕ) → told (x .0) (x .1) ≡ o → told (y .0) (y .1) ≡ o → x ≡ y
+same-told x y e f =
+    let t : told (x .0) (x .1) ≡ told (y .0) (y .1) = e ∙ sym f in
+    λ i. (same-answer (x .0) (y .0) (ap (λ q. q .reply) t) i, ap (λ q. q .output) t i)
+
+pub determined : Determined
+determined (check ws) x y e f = same-checked x y (e ∙ sym f)
+determined (measure ws) x y e f = same-answer x y (e ∙ sym f)
+determined (write ws out) x y e f = same-told x y e f
+determined (pack g ws out) x y e f = same-told x y e f
+determined (unpack g bs out) x y e f = same-told x y e f
+
+-- the definition's cases
+written-is : (ws out : List ℕ) (g : Reading) → read ws ≡ g → (a : Answer) × (o : List ℕ) × (told a o ≡ written g out) × Replied ws out a o
+unfolding written filled replyOf
+written-is ws out (refused e p) q = (Refusal e, out, refl, refusing q)
+written-is ws out (accepted t) q = go (ltb (length out) (length (words images (image t)))) refl
+  where
+    go : (b : Bool) → ltb (length out) (length (words images (image t))) ≡ b
+        → (a : Answer) × (o : List ℕ) × (told a o ≡ written (accepted t) out) × Replied ws out a o
+    go true e = (Refusal 9, out, rw e, no-room q (ltb-true _ _ e))
+    go false e = (
+      Count (length (words images (image t))),
+      words images (image t) ++ drop (length (words images (image t))) out,
+      rw e,
+      writing q refl (ltb-false _ _ e) refl,
+    )
+
+pub demand1 : Demand1
+demand1 ws out o a h =
+    let w = written-is ws out (read ws) refl in
+    subst (λ (x : Answer × List ℕ). Replied ws out (x .0) (x .1)) (same-told (w .0, w .1) (a, o) (w .2) h) (w .3)
+
+-- a rule that was accepted as one term was accepted as no other, and was not refused
+same-term : {g : Reading} {t u : Term} → g ≡ accepted t → g ≡ accepted u → t ≡ u
+same-term p q = cc
+
+not-refused : {C : Type 0} {g : Reading} {t : Term} {e p : ℕ} → g ≡ accepted t → g ≡ refused e p → C
+not-refused h k = never cc
+
+pub demand2 : Demand2
+demand2 ws out o a t q h = go (demand1 ws out o a h)
+  where
+    go : {a : Answer} {o : List ℕ} → Replied ws out a o → Written t out o a
+    go (refusing k) = not-refused q k
+    go (no-room {t = u} k l) =
+        let z : u ≡ t = same-term k q in
+        let l' : length out < length (words images (image t)) = rw z at l in
+        record { fits = λ m. absurd (omega arith); longer = λ e. l' }
+    go (writing {t = u} k e l p) =
+        let z : u ≡ t = same-term k q in
+        let e' = rw z at e in
+        let p' = rw (z, e') at p in
+        record { fits = λ m. (ap Count e', p'); longer = λ x. never cc }
+
+-- the front of what was written
+front : (ws out o : List ℕ) (n : ℕ) (t : Term) → read ws ≡ accepted t → Allows (write ws out) (Count n, o) → words images (image t) ≡ take n o
+front ws out o n t q h = go refl (demand1 ws out o (Count n) h)
+  where
+    go : {a : Answer} {o : List ℕ} → a ≡ Count n → Replied ws out a o → words images (image t) ≡ take n o
+    go c (refusing k) = never cc
+    go c (no-room k l) = never cc
+    go c (writing {t = u} {n = m} k e l p) =
+        let z : u ≡ t = same-term k q in
+        let y : m ≡ n = cc in
+        rw (p, ← z, ← y) (sym (take-at (words images (image u)) (drop m out) m (sym e)))
+
+pub written-runs : WrittenRuns
+written-runs ws out o n t v q r h =
+    let f = front ws out o n t q h in
+    let g = images-in-range t ((accepted-rule ws t q) .ranged) in (
+      record {
+        term = image t;
+        ranged = g;
+        laid = f;
+        only = λ u k e. words-determine images u (image t) k g (e ∙ sym f);
+      },
+      (demand3-of-words ws t v q r) .comes,
+    )
