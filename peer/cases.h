@@ -1,0 +1,41 @@
+/* The paper's worked rules. */
+#ifndef PEER_CASES_H
+#define PEER_CASES_H
+
+#include <stddef.h>
+
+#include "file.h"
+#include "rule.h"
+#include "words.h"
+
+struct accepted_case {
+    char name;
+    struct word_list rule;
+    size_t image_count;
+    struct word_list value;
+    size_t applications;
+};
+
+struct refused_case {
+    char name;
+    struct word_list rule;
+    struct refusal refusal;
+};
+
+enum { ACCEPTED_CASES = 7, REFUSED_CASES = 6 };
+
+/* Case O: words 0201 before 0600 0000. */
+enum { O_REFUSED_FUNCTIONS = 64, O_ACCEPTED_FUNCTIONS = 63 };
+
+/* Case N: the outputs lent for case A. */
+enum { N_SHORT_OUTPUT = 7, N_LONG_ENOUGH_OUTPUT = 8 };
+
+extern const struct accepted_case accepted_cases[ACCEPTED_CASES]; /* A to G */
+extern const struct refused_case refused_cases[REFUSED_CASES];    /* H to M */
+
+extern const struct word_list case_b_image;
+extern const struct byte_list case_b_file;
+
+void put_case_o(struct word_sink *sink, size_t functions);
+
+#endif

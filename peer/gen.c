@@ -1,0 +1,40 @@
+#include "gen.h"
+
+#include <stdlib.h>
+
+#include "cases.h"
+#include "gen_faults.h"
+#include "gen_limits.h"
+#include "gen_random.h"
+#include "gen_record.h"
+#include "gen_runs.h"
+
+static void write_case_o(FILE *out, size_t functions)
+{
+    struct record record;
+
+    start_record(&record);
+    put_case_o(&record.sink, functions);
+    end_record(&record, out);
+}
+
+static void write_worked_rules(FILE *out)
+{
+    for (size_t i = 0; i < ACCEPTED_CASES; i++)
+        write_record(out, accepted_cases[i].rule);
+    for (size_t i = 0; i < REFUSED_CASES; i++)
+        write_record(out, refused_cases[i].rule);
+    write_record(out, accepted_cases[0].rule); /* case N lends less to A */
+    write_case_o(out, O_REFUSED_FUNCTIONS);
+    write_case_o(out, O_ACCEPTED_FUNCTIONS);
+}
+
+int generate_corpus(FILE *out)
+{
+    write_worked_rules(out);
+    write_faults(out);
+    write_limits(out);
+    write_runs(out);
+    write_random_rules(out);
+    return ferror(out) ? EXIT_FAILURE : EXIT_SUCCESS;
+}

@@ -1,0 +1,63 @@
+#include "gen_record.h"
+
+void start_record(struct record *record)
+{
+    record->sink = sink_into(record->words, RECORD_WORDS_MOST);
+}
+
+void end_record(struct record *record, FILE *out)
+{
+    write_record(out, sink_words(&record->sink));
+}
+
+void put_kind(struct word_sink *sink, enum kind kind, size_t low)
+{
+    put_word(sink, head_word(kind, (uint8_t)low));
+}
+
+void put_two(struct word_sink *sink, enum kind kind, size_t low, size_t second)
+{
+    put_kind(sink, kind, low);
+    put_word(sink, (uint16_t)second);
+}
+
+void put_repeated(struct word_sink *sink, struct word_list list, size_t times)
+{
+    for (size_t i = 0; i < times; i++)
+        put_words(sink, list);
+}
+
+void put_leaf(struct word_sink *sink)
+{
+    put_two(sink, KIND_CONSTRUCTOR, 0, 0);
+}
+
+/* A constructor whose arguments share the remaining words evenly. */
+static void put_filler_constructor(struct word_sink *sink, size_t words)
+{
+    const size_t own_words = 2;
+    size_t left = words - own_words;
+    size_t arguments = left / FILLER_WORDS_LEAST;
+
+    if (arguments > ARGUMENTS_MOST)
+        arguments = ARGUMENTS_MOST;
+    put_two(sink, KIND_CONSTRUCTOR, words % LOW_BYTE_MOST, arguments);
+    for (; arguments > 0; arguments--) {
+        size_t share = left / arguments;
+
+        put_filler(sink, share);
+        left -= share;
+    }
+}
+
+void put_filler(struct word_sink *sink, size_t words)
+{
+    if (words == FILLER_WORDS_LEAST) {
+        put_leaf(sink);
+    } else if (words == FILLER_WORDS_LEAST + 1) {
+        put_kind(sink, KIND_FUNCTION, 1);
+        put_leaf(sink);
+    } else {
+        put_filler_constructor(sink, words);
+    }
+}

@@ -1,0 +1,37 @@
+/* Putting together one record of the generated corpus. */
+#ifndef PEER_GEN_RECORD_H
+#define PEER_GEN_RECORD_H
+
+#include <stddef.h>
+#include <stdint.h>
+#include <stdio.h>
+
+#include "corpus.h"
+#include "term.h"
+#include "words.h"
+
+enum { RECORD_WORDS_MOST = 5000, FILLER_WORDS_LEAST = 2 };
+
+struct record {
+    struct word_sink sink;
+    uint16_t words[RECORD_WORDS_MOST];
+};
+
+void start_record(struct record *record);
+void end_record(struct record *record, FILE *out);
+
+/* A head of any kind, right or wrong. */
+void put_kind(struct word_sink *sink, enum kind kind, size_t low);
+
+/* A constructor's or an arm's two words. */
+void put_two(struct word_sink *sink, enum kind kind, size_t low, size_t second);
+
+void put_repeated(struct word_sink *sink, struct word_list list, size_t times);
+
+/* A closed term that is accepted and has exactly that many words. */
+void put_filler(struct word_sink *sink, size_t words);
+
+/* 0600 0000, the shortest filler. */
+void put_leaf(struct word_sink *sink);
+
+#endif

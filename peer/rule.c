@@ -1,0 +1,193 @@
+#include "rule.h"
+
+#include <stdbool.h>
+
+/*
+ * A rule's term at depth d has its passing form at most 18 * (d - 1) + 2 deep:
+ * a chain over nine terms puts two heads before each of them.
+ */
+enum { IMAGE_DEPTH_MOST = 2048 };
+
+struct reader {
+    struct arena *arena;
+    struct word_list words;
+    size_t next;
+    enum layout layout;
+    size_t depth_most;
+    struct refusal refusal;
+};
+
+struct head {
+    uint8_t kind;
+    uint8_t low;
+};
+
+static const struct term *read_term(struct reader *reader, size_t depth,
+                                    struct scope scope);
+
+static bool refuse(struct reader *reader, enum refusal_number number)
+{
+    reader->refusal = (struct refusal){ number, reader->next };
+    return false;
+}
+
+static bool no_word_is_left(const struct reader *reader)
+{
+    return reader->next == reader->words.count;
+}
+
+static struct head next_head(const struct reader *reader)
+{
+    uint16_t word = reader->words.words[reader->next];
+
+    return (struct head){ word_kind(word), word_low(word) };
+}
+
+/* "variable index not below the number of source variables bound there" */
+static bool is_unbound(struct head head, struct scope scope)
+{
+    return (head.kind == KIND_VARIABLE && head.low >= scope.source) ||
+           (head.kind == KIND_CONTINUATION && head.low >= scope.continuation);
+}
+
+/* "At a term's head the tests are 3, 6, 4, 5, 7." */
+static bool test_term_head(struct reader *reader, size_t depth,
+                           struct scope scope, struct head *head)
+{
+    if (no_word_is_left(reader))
+        return refuse(reader, REFUSED_WORD_MISSING);
+    if (depth > reader->depth_most)
+        return refuse(reader, REFUSED_DEPTH);
+    *head = next_head(reader);
+    if (!kind_stands_as_term(reader->layout, head->kind))
+        return refuse(reader, REFUSED_KIND);
+    if (!low_is_in_range(reader->layout, head->kind, head->low))
+        return refuse(reader, REFUSED_RANGE);
+    if (is_unbound(*head, scope))
+        return refuse(reader, REFUSED_UNBOUND);
+    reader->next++;
+    return true;
+}
+
+/* "At an arm's head: 3, 4, 5." */
+static bool test_arm_head(struct reader *reader, struct head *head)
+{
+    if (no_word_is_left(reader))
+        return refuse(reader, REFUSED_WORD_MISSING);
+    *head = next_head(reader);
+    if (head->kind != KIND_ARM)
+        return refuse(reader, REFUSED_KIND);
+    if (!low_is_in_range(reader->layout, head->kind, head->low))
+        return refuse(reader, REFUSED_RANGE);
+    reader->next++;
+    return true;
+}
+
+/* "At a second word: 3, 5." A head without a second word passes. */
+static bool test_second(struct reader *reader, struct head head,
+                        uint16_t *second)
+{
+    *second = 0;
+    if (!kind_has_second_word(head.kind))
+        return true;
+    if (no_word_is_left(reader))
+        return refuse(reader, REFUSED_WORD_MISSING);
+    if (!second_is_in_range(reader->words.words[reader->next]))
+        return refuse(reader, REFUSED_RANGE);
+    *second = reader->words.words[reader->next];
+    reader->next++;
+    return true;
+}
+
+/* "an arm's body one deeper than its match" */
+static const struct term *read_arm(struct reader *reader, size_t match_depth,
+                                   struct scope scope)
+{
+    struct head head;
+    uint16_t second;
+
+    if (!test_arm_head(reader, &head) || !test_second(reader, head, &second))
+        return NULL;
+    struct term *arm =
+        term_with_parts(reader->arena, head.kind, head.low, second);
+    scope = scope_of_part(reader->layout, arm, 0, scope);
+    arm->parts[0] = read_term(reader, match_depth + 1, scope);
+    return arm->parts[0] == NULL ? NULL : arm;
+}
+
+/* "each part one deeper"; all parts of a match but the subject are arms. */
+static bool read_parts(struct reader *reader, struct term *term, size_t depth,
+                       struct scope scope)
+{
+    for (size_t i = 0; i < term->part_count; i++) {
+        if (term->kind == KIND_MATCH && i > 0)
+            term->parts[i] = read_arm(reader, depth, scope);
+        else
+            term->parts[i] =
+                read_term(reader, depth + 1,
+                          scope_of_part(reader->layout, term, i, scope));
+        if (term->parts[i] == NULL)
+            return false;
+    }
+    return true;
+}
+
+static const struct term *read_term(struct reader *reader, size_t depth,
+                                    struct scope scope)
+{
+    struct head head;
+    uint16_t second;
+
+    if (!test_term_head(reader, depth, scope, &head) ||
+        !test_second(reader, head, &second))
+        return NULL;
+    struct term *term =
+        term_with_parts(reader->arena, head.kind, head.low, second);
+    if (!read_parts(reader, term, depth, scope))
+        return NULL;
+    settle_atom(term);
+    return term;
+}
+
+static struct reading refused(enum refusal_number number)
+{
+    return (struct reading){ { number, 0 }, NULL };
+}
+
+/* "Lengths first: 1, then 2. [...] After the rule's last word: 8." */
+static struct reading read_whole(struct reader *reader, size_t words_most)
+{
+    const struct scope nothing_bound = { 0, 0 };
+    const size_t whole_depth = 1;
+
+    if (reader->words.count == 0)
+        return refused(REFUSED_NO_WORDS);
+    if (reader->words.count > words_most)
+        return refused(REFUSED_TOO_MANY_WORDS);
+    const struct term *term = read_term(reader, whole_depth, nothing_bound);
+    if (term != NULL && !no_word_is_left(reader)) {
+        refuse(reader, REFUSED_WORDS_LEFT);
+        term = NULL;
+    }
+    return (struct reading){ reader->refusal, term };
+}
+
+struct reading read_rule(struct arena *arena, struct word_list words)
+{
+    struct reader reader = { .arena = arena,
+                             .words = words,
+                             .layout = LAYOUT_RULE,
+                             .depth_most = RULE_DEPTH_MOST };
+
+    return read_whole(&reader, RULE_WORDS_MOST);
+}
+
+struct reading read_image(struct arena *arena, struct word_list words)
+{
+    struct reader reader = { .arena = arena,
+                             .words = words,
+                             .layout = LAYOUT_IMAGE,
+                             .depth_most = IMAGE_DEPTH_MOST };
+
+    return read_whole(&reader, IMAGE_WORDS_MOST);
+}
