@@ -125,12 +125,16 @@ module _ (a b n : ℕ) (ws out : List ℕ) {k : ℕ} (e : k ≡ placesOf n) wher
   text-length : length (lineText a b n ++ listed (length ws) 0 ws) ≡ k + 4 + 5 * length ws
   text-length = simp length-append (omega (arith, line-length a b n, listed-length (length ws) 0 ws))
 
-  pub text-short : length out < k + 4 + 5 * length ws → told (Refusal 9) out ≡ filled (lineText a b n ++ listed (length ws) 0 ws) out
-  text-short h = filled-short (lineText a b n ++ listed (length ws) 0 ws) out (omega (arith, text-length))
+  pub line-too-long : length out < k + 4 → told (Refusal 9) out ≡ filled (lineText a b n ++ listed (length ws) 0 ws) out
+  line-too-long h = filled-short (lineText a b n ++ listed (length ws) 0 ws) out (omega (arith, text-length))
 
-  pub text-whole : {o o' : List ℕ} → k + 4 + 5 * length ws ≤ length out → o' ≡ sets out 0 (lineText a b n) → o ≡ sets o' (k + 4) (listed (length ws) 0 ws)
+  pub words-too-many : k + 4 ≤ length out → (length out - (k + 4)) / 5 < length ws
+      → told (Refusal 9) out ≡ filled (lineText a b n ++ listed (length ws) 0 ws) out
+  words-too-many l h = filled-short (lineText a b n ++ listed (length ws) 0 ws) out (omega (arith, text-length))
+
+  pub text-whole : {o o' : List ℕ} → k + 4 ≤ length out → length ws ≤ (length out - (k + 4)) / 5 → o' ≡ sets out 0 (lineText a b n) → o ≡ sets o' (k + 4) (listed (length ws) 0 ws)
       → told (Count (k + 4 + 5 * length ws)) o ≡ filled (lineText a b n ++ listed (length ws) 0 ws) out
-  text-whole {o} {o'} h f g =
+  text-whole {o} {o'} l h f g =
       let p : k + 4 ≡ 0 + length (lineText a b n) = omega (arith, line-length a b n) in
       let q : o ≡ sets out 0 (lineText a b n ++ listed (length ws) 0 ws)
       = g ∙ ap (λ (x : ℕ). sets o' x (listed (length ws) 0 ws)) p ∙ ap (λ (x : List ℕ). sets x (0 + length (lineText a b n)) (listed (length ws) 0 ws)) f
@@ -166,6 +170,7 @@ pub ruleset ways = (
   line-stored,
   line-short,
   line-whole,
-  text-short,
+  line-too-long,
+  words-too-many,
   text-whole,
 )

@@ -123,15 +123,17 @@ fn show_refusal(out: &mut [u8], e: u8) -> Answer
 }
 
 fn show_image(out: &mut [u8], n: usize, words: &[u16]) -> Answer
-    requires { ⌜ length (now words) ≤ 65536 ⌝ }
     ensures { λ r. ⌜ told r (now (out .exit)) ≡ filled (lineText 111 107 n ++ listed (length (now (words .entry))) 0 (now (words .entry))) (now (out .entry)) ⌝ }
 {
     let k = places(n);
     let line = k + LINE_BYTES;
-    let size = line + WORD_BYTES * words.len();
-    if out.len() < size {
+    if out.len() < line {
         return Answer::Refusal(language::NO_ROOM);
     }
+    if (out.len() - line) / WORD_BYTES < words.len() {
+        return Answer::Refusal(language::NO_ROOM);
+    }
+    let size = line + WORD_BYTES * words.len();
     put_line(out, b'o', b'k', n, k);
     put_words(out, line, words);
     Answer::Count(size)
@@ -139,7 +141,6 @@ fn show_image(out: &mut [u8], n: usize, words: &[u16]) -> Answer
 
 // The bench program's whole answer, at the front of the output: a line with the reply, and on success the image's words.
 pub fn show(out: &mut [u8], answer: Answer, words: &[u16]) -> Answer
-    requires { ⌜ length (now words) ≤ 65536 ⌝ }
     ensures { λ r. ⌜ told r (now (out .exit)) ≡ filled (replyText (replyOf answer) (now (words .entry))) (now (out .entry)) ⌝ }
 {
     match answer {

@@ -1,0 +1,125 @@
+-- The ways out of translating a file, and why what is counted lies within the buffers: no call counts more than its output holds.
+-- Assumes nothing.
+use Prim.Native.Nat.{ℕ, _+_, _*_, _<_, _≤_}
+use mathlib.Core.Path.{_≡_, refl, sym, ap, _∙_, subst}
+use mathlib.Core.Bool.{Bool, true, false, cond}
+use mathlib.Core.List.{List, _++_}
+use native.Mathlib.Omega.{arith}
+use lib.Dec.{ltb, eqb}
+use lib.ListN.{length, take, drop, length-append, length-drop}
+use lib.Seq.{length-take-le}
+use borrow.Author.Tests.{lt-ltb, le-ltb, ltb-false}
+use Rattle.language.specs.Read.{Reading, accepted, refused, read}
+use Rattle.language.specs.Calls.{Reply, success, refusal, Outcome, replyOf, told, filled, written}
+use Rattle.language.specs.declared.Answer.{Answer}
+use Rattle.language.specs.declared.Answer.the-variants.{Count, Refusal}
+use Rattle.files.specs.Files.{most, version, headerBytes, wordAt, wordsAt, marked, refuses, unpacking}
+use Rattle.files.specs.declared.Form.{Form}
+use Rattle.files.specs.declared.Form.the-variants.{Rules}
+use Rattle.bench.specs.Bench.{mostBytes, zeros, onward, translated, Within, counting, refusing, Translates, Counts}
+
+-- an outcome on an output of m words: it counts no more, and leaves as many
+record Sound (m : ℕ) (x : Outcome ℕ) : Type 0 where
+  within : Within m (x .reply)
+  kept : length (x .output) ≡ m
+
+sound-refusal : (e : ℕ) (out : List ℕ) → Sound (length out) (refuses e out)
+sound-refusal e out = record { within = refusing; kept = refl }
+
+sound-cond : {m : ℕ} (b : Bool) {x y : Outcome ℕ} → Sound m x → Sound m y → Sound m (cond b x y)
+sound-cond true h k = h
+sound-cond false h k = k
+
+sound-filled : (ws out : List ℕ) → Sound (length out) (filled ws out)
+unfolding filled
+sound-filled ws out = go (ltb (length out) (length ws)) refl
+  where
+    go : (b : Bool) → ltb (length out) (length ws) ≡ b
+        → Sound (length out) (cond b (refuses 9 out) (record { reply = success (length ws); output = ws ++ drop (length ws) out }))
+    go true e = sound-refusal 9 out
+    go false e =
+        let l : length ws ≤ length out = ltb-false (length out) (length ws) e in
+        record { within = counting l; kept = simp (length-append, length-drop) (omega arith) }
+
+sound-written : (g : Reading) (out : List ℕ) → Sound (length out) (written g out)
+unfolding written
+sound-written (accepted t) out = sound-filled _ out
+sound-written (refused e p) out = sound-refusal e out
+
+sound-unpacking : (f : Form) (bs out : List ℕ) → Sound (length out) (unpacking f bs out)
+unfolding unpacking
+sound-unpacking f bs out =
+    sound-cond (marked f bs)
+    (sound-cond (eqb (wordAt bs 3) version)
+    (sound-cond (eqb (length bs) (headerBytes + 2 * wordAt bs 5))
+    (sound-cond (eqb (wordAt bs 5) 0) (sound-refusal 1 out)
+    (sound-cond (ltb (most f) (wordAt bs 5)) (sound-refusal 2 out) (sound-filled _ out)))
+    (sound-refusal 12 out))
+    (sound-refusal 11 out))
+    (sound-refusal 10 out)
+
+-- what an outcome tells, of the answer and of the output
+told-within : {m : ℕ} (a : Answer) {o : List ℕ} {x : Outcome ℕ} → told a o ≡ x → Sound m x → Within m (replyOf a)
+told-within {m} a e h = subst (Within m) (sym (ap (λ y. y .reply) e)) (h .within)
+
+told-kept : {m : ℕ} (a : Answer) {o : List ℕ} {x : Outcome ℕ} → told a o ≡ x → Sound m x → length o ≡ m
+told-kept a e h = ap (λ y. length (y .output)) e ∙ h .kept
+
+-- the count of an answer
+pub count-within : {m n : ℕ} → Within m (success n) → n ≤ m
+count-within (counting h) = h
+
+-- the ways out
+module _ (bs out : List ℕ) where
+  pub t-long : mostBytes < length bs → Translates bs out (Refusal 2) out
+  unfolding translated replyOf
+  t-long h = record { is = rw (lt-ltb mostBytes (length bs) h); within = refusing; kept = refl }
+
+  module _ (a : Answer) {ws : List ℕ} (l : length bs ≤ mostBytes) (u : told a ws ≡ unpacking Rules bs zeros) where
+    through : translated bs out ≡ onward (replyOf a) ws out
+    unfolding translated
+    through = rw (le-ltb mostBytes (length bs) l, ← u)
+
+    pub t-refused : {e : ℕ} → a ≡ Refusal e → Translates bs out (Refusal e) out
+    unfolding replyOf onward
+    t-refused k = record { is = sym (through ∙ ap (λ x. onward (replyOf x) ws out) k); within = refusing; kept = refl }
+
+    pub t-inside : {n : ℕ} → a ≡ Count n → n ≤ length ws
+    unfolding replyOf
+    t-inside {n} k =
+        let w : Within (length zeros) (replyOf a) = told-within a u (sound-unpacking Rules bs zeros) in
+        let v : n ≤ length zeros = count-within (subst (λ x. Within (length zeros) (replyOf x)) k w) in
+        rw (told-kept a u (sound-unpacking Rules bs zeros)) v
+
+    pub t-taken : {n : ℕ} → a ≡ Count n → n ≡ length (take n ws)
+    t-taken {n} k = sym (length-take-le n ws (t-inside k))
+
+    pub t-written : {n : ℕ} (b : Answer) {o : List ℕ} → a ≡ Count n → told b o ≡ written (read (take n ws)) out
+        → Translates bs out b o
+    unfolding replyOf onward
+    t-written {n} b k w = record {
+      is = w ∙ sym (through ∙ ap (λ x. onward (replyOf x) ws out) k);
+      within = told-within b w (sound-written (read (take n ws)) out);
+      kept = told-kept b w (sound-written (read (take n ws)) out);
+    }
+
+-- the count of an answer, and none of a refusal
+pub c-refusal : {a : Answer} {e : ℕ} → a ≡ Refusal e → Counts a 0
+c-refusal k = record { most = λ m w. omega arith }
+
+pub c-count : {a : Answer} {n : ℕ} → a ≡ Count n → Counts a n
+unfolding replyOf
+c-count k = record { most = λ m w. count-within (subst (λ x. Within m (replyOf x)) k w) }
+
+-- the parts of the buffers that the program hands on
+module _ {a : Answer} {r : ℕ} (c : Counts a r) where
+  pub m-image : {bs out o : List ℕ} → Translates bs out a o → r ≤ length o
+  m-image t = rw (t .kept) (c .most _ (t .within))
+
+  pub m-text : {o : List ℕ} (ws out : List ℕ) → told a o ≡ filled ws out → r ≤ length o
+  m-text ws out e = rw (told-kept a e (sound-filled ws out)) (c .most _ (told-within a e (sound-filled ws out)))
+
+pub m-taken : {r : ℕ} (l : List ℕ) → r ≤ length l → r ≡ length (take r l)
+m-taken {r} l h = sym (length-take-le r l h)
+
+pub ruleset ways = (t-long, t-refused, t-inside, t-taken, t-written, c-refusal, c-count)

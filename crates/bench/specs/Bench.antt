@@ -1,0 +1,47 @@
+-- What the bench program makes of its input: document 01, "Worked rules", the last paragraph.
+use Prim.Native.Nat.{ℕ, _≤_}
+use mathlib.Core.Bool.{cond}
+use mathlib.Core.Path.{_≡_}
+use mathlib.Core.List.{List}
+use lib.Dec.{ltb}
+use lib.ListN.{length, take, replicate}
+use Rattle.language.specs.Limits.{mostWords}
+use Rattle.language.specs.Read.{read}
+use Rattle.language.specs.Calls.{Reply, success, refusal, Outcome, written, replyOf, told}
+use Rattle.language.specs.declared.Answer.{Answer}
+use Rattle.files.specs.Files.{refuses, unpacking}
+use Rattle.files.specs.declared.Form.the-variants.{Rules}
+
+-- "If more than 8,199 bytes arrive it prints `no 2` and looks at nothing else."
+abbrev pub mostBytes : ℕ
+mostBytes = 8199
+
+-- the words lent for the rule, before it is unpacked
+abbrev pub zeros : List ℕ
+zeros = replicate mostWords 0
+
+-- the words that unpacking gave, written as a rule; or its refusal
+unfoldable pub onward : Reply ℕ → List ℕ → List ℕ → Outcome ℕ
+onward (success n) ws out = written (read (take n ws)) out
+onward (refusal e) ws out = refuses e out
+
+-- a file of the rules' form, unpacked, and its rule's image in the output
+unfoldable pub translated : List ℕ → List ℕ → Outcome ℕ
+translated bs out =
+    cond (ltb mostBytes (length bs)) (refuses 2 out)
+    (onward (unpacking Rules bs zeros .reply) (unpacking Rules bs zeros .output) out)
+
+-- a reply counts no more than m
+pub data Within (m : ℕ) : Reply ℕ → Type 0 where
+  counting : {n : ℕ} → n ≤ m → Within m (success n)
+  refusing : {e : ℕ} → Within m (refusal e)
+
+-- the answer and the output are the definition's; the answer counts no more than the output holds, and the output is as long as it was
+pub record Translates (bs out : List ℕ) (a : Answer) (o : List ℕ) : Type 0 where
+  pub is : told a o ≡ translated bs out
+  pub within : Within (length out) (replyOf a)
+  pub kept : length o ≡ length out
+
+-- r is no more than whatever bounds the answer's count
+pub record Counts (a : Answer) (r : ℕ) : Type 0 where
+  pub most : (m : ℕ) → Within m (replyOf a) → r ≤ m
