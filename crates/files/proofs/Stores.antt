@@ -1,7 +1,7 @@
 -- The ways out of the functions that test a mark and store words, in the words of the code: one law for each.
 -- Assumes nothing.
 use Prim.Native.Nat.{ℕ, zero, suc, _+_, _-_, _*_, _/_, _%_, _<_, _≤_}
-use mathlib.Core.Path.{_≡_, refl, sym, ap, subst}
+use mathlib.Core.Path.{_≡_, refl, sym, ap₂, subst}
 use mathlib.Core.Bool.{Bool, true, false, _&&_, not}
 use mathlib.Core.List.{List, [], _∷_, _++_}
 use native.Mathlib.Omega.{arith}
@@ -39,28 +39,31 @@ module _ (f : Form) (bs : List ℕ) where
 
 -- The loops: what is still to be stored, stored from where the loop is, gives what is to be stored in all.
 -- The words of a file, one by one.
-pub next-word : (o goal bs : List ℕ) (i n : ℕ) {w : ℕ} → i < n → w ≡ wordAt bs (headerBytes + 2 * i)
-    → sets o i (wordsAt bs (headerBytes + 2 * i) (n - i)) ≡ goal → sets (set o i w) (i + 1) (wordsAt bs (headerBytes + 2 * (i + 1)) (n - (i + 1))) ≡ goal
+pub next-word : (o goal bs : List ℕ) (from i n : ℕ) {w : ℕ} → i < n → w ≡ wordAt bs (from + 2 * i)
+    → sets o i (wordsAt bs (from + 2 * i) (n - i)) ≡ goal → sets (set o i w) (i + 1) (wordsAt bs (from + 2 * (i + 1)) (n - (i + 1))) ≡ goal
 unfolding wordsAt
-next-word o goal bs i n {w} h e g =
-    let at : ℕ = headerBytes + 2 * i in
+next-word o goal bs from i n {w} h e g =
+    let at : ℕ = from + 2 * i in
     let m : ℕ = n - (i + 1) in
     let k : n - i ≡ suc m = omega arith in
     let first : sets (set o i (wordAt bs at)) (suc i) (wordsAt bs (at + 2) m) ≡ goal = subst (λ (x : ℕ). sets o i (wordsAt bs at x) ≡ goal) k g in
     let on : sets (set o i (wordAt bs at)) (i + 1) (wordsAt bs (at + 2) m) ≡ goal
     = subst (λ (x : ℕ). sets (set o i (wordAt bs at)) x (wordsAt bs (at + 2) m) ≡ goal) (sym (add-one i)) first in
-    let to : sets (set o i (wordAt bs at)) (i + 1) (wordsAt bs (headerBytes + 2 * (i + 1)) m) ≡ goal
+    let to : sets (set o i (wordAt bs at)) (i + 1) (wordsAt bs (from + 2 * (i + 1)) m) ≡ goal
     = subst (λ (x : ℕ). sets (set o i (wordAt bs at)) (i + 1) (wordsAt bs x m) ≡ goal) (omega arith) on in
-    subst (λ (x : ℕ). sets (set o i x) (i + 1) (wordsAt bs (headerBytes + 2 * (i + 1)) m) ≡ goal) (sym e) to
+    subst (λ (x : ℕ). sets (set o i x) (i + 1) (wordsAt bs (from + 2 * (i + 1)) m) ≡ goal) (sym e) to
 
-pub words-start : (o bs : List ℕ) (n : ℕ) → sets o 0 (wordsAt bs (headerBytes + 2 * 0) (n - 0)) ≡ sets o 0 (wordsAt bs headerBytes n)
-words-start o bs n = ap (λ (x : ℕ). sets o 0 (wordsAt bs headerBytes x)) (omega arith)
+pub words-start : (o bs : List ℕ) (from n : ℕ) → sets o 0 (wordsAt bs (from + 2 * 0) (n - 0)) ≡ sets o 0 (wordsAt bs from n)
+words-start o bs from n =
+    let a : from + 2 * 0 ≡ from = omega arith in
+    let b : n - 0 ≡ n = omega arith in
+    ap₂ (λ (x y : ℕ). sets o 0 (wordsAt bs x y)) a b
 
-pub words-end : (o goal bs : List ℕ) (i n : ℕ) → n ≤ i → sets o i (wordsAt bs (headerBytes + 2 * i) (n - i)) ≡ goal → o ≡ goal
+pub words-end : (o goal bs : List ℕ) (from i n : ℕ) → n ≤ i → sets o i (wordsAt bs (from + 2 * i) (n - i)) ≡ goal → o ≡ goal
 unfolding wordsAt
-words-end o goal bs i n h g =
+words-end o goal bs from i n h g =
     let z : n - i ≡ 0 = omega arith in
-    subst (λ (x : ℕ). sets o i (wordsAt bs (headerBytes + 2 * i) x) ≡ goal) z g
+    subst (λ (x : ℕ). sets o i (wordsAt bs (from + 2 * i) x) ≡ goal) z g
 
 -- The bytes of words, two by two.
 pub next-bytes : (o goal ws : List ℕ) (i : ℕ) {o' : List ℕ} → o' ≡ sets o (headerBytes + 2 * i) (bytesOf (getD ws i 0 ∷ []))

@@ -113,7 +113,7 @@ fn byte(b: u8) -> u16
 }
 
 // The word at a place, low byte first.
-fn word_at(bytes: &[u8], at: usize) -> u16
+pub fn word_at(bytes: &[u8], at: usize) -> u16
     requires { ⌜ at + 2 ≤ length (now bytes) ⌝ }
     ensures { λ r. ⌜ r ≡ wordAt (now (bytes .entry)) at ⌝ }
 {
@@ -136,13 +136,14 @@ fn has_mark(bytes: &[u8], form: Form) -> bool
     bytes[2] == third_letter(form)
 }
 
-fn take_words(out: &mut [u16], bytes: &[u8], count: usize)
-    requires { ⌜ (headerBytes + 2 * count ≤ length (now bytes)) × (count ≤ length (now out)) ⌝ }
-    ensures { λ r. ⌜ now (out .exit) ≡ sets (now (out .entry)) 0 (wordsAt (now (bytes .entry)) headerBytes count) ⌝ }
+// So many words from a place of a file on, at the front of the output.
+pub fn take_words(out: &mut [u16], bytes: &[u8], at: usize, count: usize)
+    requires { ⌜ (at + 2 * count ≤ length (now bytes)) × (count ≤ length (now out)) ⌝ }
+    ensures { λ r. ⌜ now (out .exit) ≡ sets (now (out .entry)) 0 (wordsAt (now (bytes .entry)) at count) ⌝ }
 {
     let mut i = 0;
     while i < count {
-        out[i] = word_at(bytes, HEADER + 2 * i);
+        out[i] = word_at(bytes, at + 2 * i);
         i += 1;
     }
 }
@@ -170,6 +171,6 @@ pub fn unpack(out: &mut [u16], form: Form, bytes: &[u8]) -> Answer
     if out.len() < count {
         return Answer::Refusal(language::NO_ROOM);
     }
-    take_words(out, bytes, count);
+    take_words(out, bytes, HEADER, count);
     Answer::Count(count)
 }

@@ -45,7 +45,8 @@ fn end_of(n: usize, i: usize) -> u8
     SPACE
 }
 
-fn put_word(out: &mut [u8], at: usize, w: u16, end: u8)
+// A word's four digits, and what stands after them.
+pub fn put_word(out: &mut [u8], at: usize, w: u16, end: u8)
     requires { ⌜ at + 5 ≤ length (now out) ⌝ }
     ensures { λ r. ⌜ now (out .exit) ≡ sets (now (out .entry)) at (wordText w end) ⌝ }
 {
@@ -56,7 +57,8 @@ fn put_word(out: &mut [u8], at: usize, w: u16, end: u8)
     out[at + 4] = end;
 }
 
-fn put_words(out: &mut [u8], at: usize, words: &[u16])
+// The words, eight to a line.
+pub fn put_words(out: &mut [u8], at: usize, words: &[u16])
     requires { ⌜ at + 5 * length (now words) ≤ length (now out) ⌝ }
     ensures { λ r. ⌜ now (out .exit) ≡ sets (now (out .entry)) at (listed (length (now (words .entry))) 0 (now (words .entry))) ⌝ }
 {

@@ -5,21 +5,21 @@ use borrow.Author.Needs.{needs}
 use native.Mathlib.Omega.{arith}
 use lib.ListN.{length, length-set}
 use lib.Seq.{sets}
-use Rattle.files.specs.Files.{headerBytes, wordsAt}
+use Rattle.files.specs.Files.{wordsAt}
 use Rattle.files.proofs.Stores.{words-start, ways}
 use Rattle.files.proofs.take_words.Statement.{statement}
 use Rattle.files.proofs.take_words.Tie as tie
 
 abbrev Inv-loop : tie.InvT-loop
-Inv-loop out₀ bytes count i₀ out i =
-    (sets out i (wordsAt bytes (headerBytes + 2 * i) (count - i)) ≡ sets out₀ 0 (wordsAt bytes headerBytes count))
+Inv-loop out₀ bytes at count i₀ out i =
+    (sets out i (wordsAt bytes (at + 2 * i) (count - i)) ≡ sets out₀ 0 (wordsAt bytes at count))
     × (length out ≡ length out₀) × (i ≤ count)
 
 abbrev μ-loop : tie.MeasureT-loop
-μ-loop out₀ bytes count i₀ out i = count - i
+μ-loop out₀ bytes at count i₀ out i = count - i
 
 loop-holds : tie.Need-loop-holds Inv-loop μ-loop
-loop-holds c = (words-start _ _ _, refl, search needs)
+loop-holds c = (words-start _ _ _ _, refl, search needs)
 
 mul-word-at : tie.Need-mul-word-at Inv-loop μ-loop
 mul-word-at c = search needs
