@@ -2,11 +2,11 @@
 -- a kind and a low byte to the row; the terms are then told apart by the parts of their rows.
 -- Assumes nothing.
 use Prim.Native.Nat.{ℕ, zero, suc, _+_, _/_, _%_, _≤_}
-use mathlib.Core.Path.{_≡_, refl, sym, ap, subst, _∙_}
+use mathlib.Core.Path.{_≡_, refl, ap, subst, _∙_}
 use mathlib.Core.List.{List}
 use native.Mathlib.Omega.{arith}
 use lib.ListN.{getD}
-use Rattle.language.specs.Term.{rules, Term, Terms, Arms, var, kvar, fun, call, bind, con, cases, size, sizeᵃ}
+use Rattle.language.specs.Term.{rules, Term, Terms, Arms, var, fun, call, bind, con, cases, size, sizeᵃ}
 use Rattle.language.specs.Kinds.{mostArguments, mostArms, mostByte, atTerm, row, noRow, kinds, rowOf, headOf}
 use Rattle.language.specs.Words.{head, words}
 use Rattle.language.specs.Limits.{Ranged, Rangedᵗ, Rangedᵃ, r-var, r-kvar, r-fun, r-call, r-bind, r-con, r-cases}
@@ -18,7 +18,7 @@ use Rattle.language.specs.declared.Head.{Head}
 use Rattle.language.specs.declared.Head.the-variants.{Refused, Opens}
 use Rattle.language.proofs.Heads.{opens}
 use Rattle.language.proofs.Places.{first-word}
-use Rattle.atoms.specs.Standing.{Headed}
+use Rattle.atoms.specs.Standing.{Parted}
 
 -- a term within the ranges of a rule, by what follows its head
 pub data Opened : Parts → Term → Type 0 where
@@ -61,7 +61,7 @@ looked (r-cases {ps = ps} l h r rs) k = by-kind 7 (sizeᵃ ps) (first-word k) (o
 
 module _ {t : Term} {s : List ℕ} {at to : ℕ} (r : Ranged rules t) (k : Held s (words rules t) at to) where
   -- the term that stands where a head has the parts P has the parts P
-  pub opened : {P : Parts} → Headed P s at → Opened P t
+  pub opened : {P : Parts} {d : ℕ} → Parted P d s at → Opened P t
   opened {P} H =
       let L = looked r k in
       let e : L .row ≡ H .row = cc in

@@ -1,23 +1,24 @@
 -- Parts of a rule that stand one after the other, and a part that is taken apart into those that it is made of: a term by its head, a list by
 -- its length.
 -- Assumes nothing.
-use Prim.Native.Nat.{ℕ, zero, suc, _+_, _-_, _*_, _%_, _≤_, _<_}
+use Prim.Native.Nat.{ℕ, _+_, _-_, _*_, _%_, _≤_, _<_}
 use mathlib.Core.Path.{_≡_, refl, sym, ap, subst, _∙_}
-use mathlib.Core.List.{List, [], _∷_, _++_}
+use mathlib.Core.List.{List, [], _∷_}
 use native.Mathlib.Omega.{arith}
 use lib.ListN.{length, getD, drop, length-append, length-drop}
-use Rattle.language.specs.Term.{rules, Term, Terms, Arms, var, kvar, fun, call, bind, con, cases, nil, cons, none, arm, size, sizeᵃ}
-use Rattle.language.specs.Words.{head, words, wordsᵗ, wordsᵃ}
-use Rattle.language.specs.Limits.{Ranged, Rangedᵗ, Rangedᵃ, r-nil, r-cons, r-none, r-arm, depth, depthᵗ, depthᵃ}
+use Rattle.language.specs.Term.{rules, Term, Terms, Arms, var, kvar, fun, call, bind, con, cases, cons, none, arm, size, sizeᵃ}
+use Rattle.language.specs.Words.{head, words, wordsᵃ}
+use Rattle.language.specs.Limits.{Rangedᵗ, Rangedᵃ, r-nil, r-cons, r-none, r-arm, depth}
 use Rattle.language.specs.Places.{Held}
 use Rattle.language.specs.declared.Parts.{Parts}
 use Rattle.language.specs.declared.Parts.the-variants.{Nothing, Body, FunctionAndArguments, BoundAndBody, CountAndArguments, SubjectAndArms, ArityAndBody}
 use Rattle.language.proofs.Places.{first-run, second-run, first-word, next-words, there}
-use Rattle.atoms.specs.Standing.{Part, term, terms, arms, atomic, atomics, over, _then_, Thing, Good, source, Headed, Seen, Stands, Ends, Counted}
+use Rattle.atoms.specs.Standing.{Part, term, terms, arms, over, _then_, Thing, source, Seen, Stands, Ends, Parted, Counted}
 use Rattle.atoms.proofs.Opened.{Opened, o-var, o-fun, o-call, o-bind, o-con, o-cases, opened}
 
 -- the first of two parts, and the second where the first is known to end
-pub first : {P Q : Part} {s : List ℕ} {at to : ℕ} {x : Thing (P then Q)} → Seen (P then Q) s at to x → Seen P s at (at + length (source P (x .0))) (x .0)
+pub first : {P Q : Part} {s : List ℕ} {at to : ℕ} {x : Thing (P then Q)} → Seen (P then Q) s at to x
+    → Seen P s at (at + length (source P (x .0))) (x .0)
 first {P} {Q} {x = x} k = record { good = k .good .0; held = first-run (source P (x .0)) (source Q (x .1)) (k .held) }
 
 pub second : {P Q : Part} {s : List ℕ} {at i to : ℕ} {x : Thing (P then Q)} → Seen (P then Q) s at to x → Ends P s at i → Seen Q s i to (x .1)
@@ -115,7 +116,8 @@ module _ {s : List ℕ} {at to d : ℕ} where
     open-nil z r-nil k = record { thing = []; seen = record { good = refl; held = k .held } }
     open-nil z (r-cons r rs) k = absurd (omega (arith, k .good .2))
 
-    unfoldable pub open-cons : {ts : Terms} → (n ≡ 0 → ⊥) → Rangedᵗ rules ts → Seen (terms d n) s at to ts → Some (term d then terms d (n - 1)) s at to
+    unfoldable pub open-cons : {ts : Terms} → (n ≡ 0 → ⊥) → Rangedᵗ rules ts → Seen (terms d n) s at to ts
+        → Some (term d then terms d (n - 1)) s at to
     unfolding words size depth
     open-cons z r-nil k = absurd (z (sym (k .good .2)))
     open-cons z (r-cons {t} {ts} r rs) k = record {
@@ -147,26 +149,26 @@ no-arm = elim [ ]
 -- The same at a place: how each part that stands there is taken apart, by what the code has tested.
 module _ {s : List ℕ} {at : ℕ} (d : ℕ) where
   -- by the view of a term that the head opens
-  by-head : {P : Parts} {Q : Part} → Headed P s at → ((t : Term) (to : ℕ) → Opened P t → Seen (term d) s at to t → Some Q s at to)
+  by-head : {P : Parts} {Q : Part} → Parted P d s at → ((t : Term) (to : ℕ) → Opened P t → Seen (term d) s at to t → Some Q s at to)
       → Unfolds (term d) Q s at
   by-head H f = record { into = λ t to k. f t to (opened (k .good .0) (k .held) H) k }
 
-  pub as-var : Headed Nothing s at → Unfolds (term d) (over 1) s at
+  pub as-var : Parted Nothing d s at → Unfolds (term d) (over 1) s at
   as-var H = by-head H (λ t to. open-var)
 
-  pub as-fun : Headed Body s at → Unfolds (term d) (over 1 then term (d - 1)) s at
+  pub as-fun : Parted Body d s at → Unfolds (term d) (over 1 then term (d - 1)) s at
   as-fun H = by-head H (λ t to. open-fun)
 
-  pub as-call : Headed FunctionAndArguments s at → Unfolds (term d) (over 1 then terms (d - 1) (getD s at 0 % 256 + 1)) s at
+  pub as-call : Parted FunctionAndArguments d s at → Unfolds (term d) (over 1 then terms (d - 1) (getD s at 0 % 256 + 1)) s at
   as-call H = by-head H (λ t to. open-call)
 
-  pub as-bind : Headed BoundAndBody s at → Unfolds (term d) (over 1 then term (d - 1) then term (d - 1)) s at
+  pub as-bind : Parted BoundAndBody d s at → Unfolds (term d) (over 1 then term (d - 1) then term (d - 1)) s at
   as-bind H = by-head H (λ t to. open-bind)
 
-  pub as-con : {n : ℕ} → Headed CountAndArguments s at → n ≡ getD s (at + 1) 0 → Unfolds (term d) (over 2 then terms (d - 1) n) s at
+  pub as-con : {n : ℕ} → Parted CountAndArguments d s at → n ≡ getD s (at + 1) 0 → Unfolds (term d) (over 2 then terms (d - 1) n) s at
   as-con H e = by-head H (λ t to. open-con e)
 
-  pub as-cases : Headed SubjectAndArms s at → Unfolds (term d) (over 1 then term (d - 1) then arms (d - 1) (getD s at 0 % 256)) s at
+  pub as-cases : Parted SubjectAndArms d s at → Unfolds (term d) (over 1 then term (d - 1) then arms (d - 1) (getD s at 0 % 256)) s at
   as-cases H = by-head H (λ t to. open-cases)
 
   module _ {n : ℕ} where
@@ -182,7 +184,7 @@ module _ {s : List ℕ} {at : ℕ} (d : ℕ) where
     pub as-arm : (n ≡ 0 → ⊥) → Unfolds (arms d n) (over 2 then term d then arms d (n - 1)) s at
     as-arm z = record { into = λ ps to k. open-arm z (k .good .0) k }
 
-  pub as-arity : {Q : Part} → Headed ArityAndBody s at → Unfolds (term d) Q s at
+  pub as-arity : {Q : Part} → Parted ArityAndBody d s at → Unfolds (term d) Q s at
   as-arity H = by-head H (λ t to v k. no-arm v)
 
 -- the second word of a constructor

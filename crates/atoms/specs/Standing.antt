@@ -17,12 +17,6 @@ use Rattle.language.specs.declared.Head.the-variants.{Opens}
 use Rattle.atoms.specs.declared.Found.{Found}
 use Rattle.atoms.specs.declared.Found.the-variants.{Atoms, Other}
 
--- the word of s at `at` is the head of a term with the parts P
-pub record Headed (P : Parts) (s : List ℕ) (at : ℕ) : Type 0 where
-  pub row : Row
-  pub opens : headOf atTerm (getD s at 0) ≡ Opens row
-  pub parts : row .parts ≡ P
-
 -- A part of a rule: a term of at most d levels; n terms, or n arms, each of at most d levels; an atom, or n atoms, of at most d levels;
 -- n words, whatever they are; one part and then another.
 infixr 20 _then_
@@ -78,32 +72,24 @@ pub record Stands (P : Part) (s : List ℕ) (at : ℕ) : Type 0 where
 pub record Ends (P : Part) (s : List ℕ) (at to : ℕ) : Type 0 where
   pub end : (x : Thing P) (e : ℕ) → Seen P s at e x → to ≡ e
 
--- whether a part is all atoms
-abbrev pub all : (P : Part) → Thing P → Bool
-all (term d) t = atom t
-all (terms d n) ts = atoms ts
-all (arms d n) ps = false
-all (atomic d) t = true
-all (atomics d n) ts = true
-all (over n) ws = true
-all (P then Q) x = false
-
--- what the test finds where that is so or not, and the part ends at a place
+-- what a test for atoms finds where a part passes it or not, and ends at a place
 abbrev pub foundOf : Bool → ℕ → Found
 foundOf true to = Atoms to
 foundOf false to = Other
 
--- the test's answer is right of each good part P that stands in s at `at`
-pub record Tells (P : Part) (s : List ℕ) (at : ℕ) (r : Found) : Type 0 where
-  pub tell : (x : Thing P) (to : ℕ) → Seen P s at to x → r ≡ foundOf (all P x) to
+-- r is the test's answer for each good part P that stands in s at `at`
+pub record Tells (P : Part) (test : Thing P → Bool) (s : List ℕ) (at : ℕ) (r : Found) : Type 0 where
+  pub tell : (x : Thing P) (to : ℕ) → Seen P s at to x → r ≡ foundOf (test x) to
 
 -- b tells whether a term of at most d levels that stands in s at `at` is an atom
 pub record AtomAt (d : ℕ) (s : List ℕ) (at : ℕ) (b : Bool) : Type 0 where
   pub is : (t : Term) (to : ℕ) → Seen (term d) s at to t → b ≡ atom t
 
--- what follows the head of a term of at most d levels that stands in s at `at`
+-- P is what follows the head of a term of at most d levels that stands in s at `at`
 pub record Parted (P : Parts) (d : ℕ) (s : List ℕ) (at : ℕ) : Type 0 where
-  pub headed : Headed P s at
+  pub row : Row
+  pub opens : headOf atTerm (getD s at 0) ≡ Opens row
+  pub parts : row .parts ≡ P
   pub inside : at < length s
   pub deep : 1 ≤ d
 

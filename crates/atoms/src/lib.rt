@@ -2,10 +2,14 @@
 use language::Head;
 use language::Parts;
 ghost use Rattle.language.specs.declared.Parts.the-variants.{CountAndArguments};
+ghost use Rattle.language.specs.Run.{atom, atoms};
 ghost use Rattle.atoms.specs.Standing.{term, terms, arms, Stands, Ends, Tells, AtomAt, Parted, Counted};
 
 // The words before the parts of a constructor and before the body of an arm: a head, and a count.
-const HEAD_AND_COUNT: usize = 2;
+pub const HEAD_AND_COUNT: usize = 2;
+
+// A head's number is its low byte, the remainder by this.
+pub const LOW_BYTE: u16 = 256;
 
 // What a test for atoms finds: the place after what stands there, where all of it is atoms.
 pub enum Found {
@@ -38,7 +42,7 @@ fn skip(s: &[u16], at: usize, depth: usize) -> usize
     ensures { λ r. ⌜ Ends (term depth) (now (s .entry)) at r ⌝ }
 {
     let parts = parts_at(s, at, depth);
-    let low = (s[at] % 256) as usize;
+    let low = (s[at] % LOW_BYTE) as usize;
     let next = at + 1;
     let left = depth - 1;
     match parts {
@@ -80,7 +84,7 @@ fn skip_arms(s: &[u16], at: usize, depth: usize, count: usize) -> usize
 // Whether the term at `at` is an atom, and where it ends if it is.
 fn atom_at(s: &[u16], at: usize, depth: usize) -> Found
     requires { ⌜ Stands (term depth) (now s) at ⌝ }
-    ensures { λ r. ⌜ Tells (term depth) (now (s .entry)) at r ⌝ }
+    ensures { λ r. ⌜ Tells (term depth) atom (now (s .entry)) at r ⌝ }
 {
     match parts_at(s, at, depth) {
         Parts::Nothing => Found::Atoms(at + 1),
@@ -99,7 +103,7 @@ fn atom_at(s: &[u16], at: usize, depth: usize) -> Found
 // Whether the `count` terms at `at` are all atoms, and where they end if they are: the first that is no atom ends the test.
 fn atoms_at(s: &[u16], at: usize, depth: usize, count: usize) -> Found
     requires { ⌜ Stands (terms depth count) (now s) at ⌝ }
-    ensures { λ r. ⌜ Tells (terms depth count) (now (s .entry)) at r ⌝ }
+    ensures { λ r. ⌜ Tells (terms depth count) atoms (now (s .entry)) at r ⌝ }
 {
     if count == 0 {
         return Found::Atoms(at);

@@ -49,11 +49,11 @@ of-chain nil e = omega arith
 of-chain (cons t ts) e = simp length-append (omega (arith, of-chain ts e))
 
 -- the two endings of a chain
-of-calling : (n : ℕ) → length (words images (calling n)) ≡ n + 3
+pub of-calling : (n : ℕ) → length (words images (calling n)) ≡ n + 3
 unfolding words
 of-calling n = simp length-append (omega (arith, of-downto n))
 
-of-making : (t n : ℕ) → length (words images (making t n)) ≡ n + 4
+pub of-making : (t n : ℕ) → length (words images (making t n)) ≡ n + 4
 unfolding words
 of-making t n = simp length-append (omega (arith, of-downto n))
 

@@ -1,21 +1,24 @@
 -- Jobs done one after another, and a job that is done as another: what is ready for the next step, and what was done when all steps were.
 -- Assumes nothing.
 use Prim.Native.Nat.{ℕ, _+_}
-use mathlib.Core.Path.{_≡_, refl}
-use mathlib.Core.List.{List, _++_}
+use mathlib.Core.Path.{_≡_, refl, ap}
+use mathlib.Core.List.{List}
+use native.Mathlib.Omega.{arith}
+use lib.ListN.{length}
 use Rattle.atoms.specs.Standing.{Thing, Seen}
 use Rattle.atoms.proofs.Standing.{first, second, ends-over, ends-then}
-use Rattle.writing.specs.Jobs.{Room, Put, Job, before, after, skipped, _next_, reads, target, Ready, Done}
-use Rattle.writing.proofs.Puts.{put-none, put-then, room-first, room-after, room-as, put-as}
+use Rattle.runs.specs.Runs.{Room, Put}
+use Rattle.writing.specs.Jobs.{Job, before, after, skipped, _next_, reads, target, Ready, Done}
+use Rattle.runs.proofs.Runs.{put-none, put-then, room-first, room-after, put-as}
 
 module _ {s : List ℕ} {at : ℕ} {o : List ℕ} {p : ℕ} where
   -- words, and then a job
   module _ {ws : List ℕ} {J : Job} where
-    pub before-room : Ready (before ws J) o p s at → Room o p ws
+    pub before-room : Ready (before ws J) o p s at → Room o p (length ws)
     before-room r = room-first ws (target J (r .thing)) (r .room)
 
-    pub before-ready : {o′ : List ℕ} {i : ℕ} → Ready (before ws J) o p s at → Put ws o p o′ i → Ready J o′ i s at
-    before-ready r f = record { thing = r .thing; to = r .to; seen = r .seen; room = room-after (r .room) f }
+    pub before-ready : {v o′ : List ℕ} {i : ℕ} → Ready (before ws J) o p s at → Put v o p o′ i → length v ≡ length ws → Ready J o′ i s at
+    before-ready r f e = record { thing = r .thing; to = r .to; seen = r .seen; room = room-after ws (target J (r .thing)) (r .room) f e }
 
     pub before-done : {o′ o″ : List ℕ} {i to end : ℕ} → Put ws o p o′ i → Done J o′ i s at o″ to end → Done (before ws J) o p s at o″ to end
     before-done f D = record { ends = D .ends; puts = λ x e k. put-then f (D .puts x e k) }
@@ -24,8 +27,8 @@ module _ {s : List ℕ} {at : ℕ} {o : List ℕ} {p : ℕ} where
     pub after-ready : Ready (after J ws) o p s at → Ready J o p s at
     after-ready r = record { thing = r .thing; to = r .to; seen = r .seen; room = room-first (target J (r .thing)) ws (r .room) }
 
-    pub after-room : {o′ : List ℕ} {to i : ℕ} → Ready (after J ws) o p s at → Done J o p s at o′ to i → Room o′ i ws
-    after-room r D = room-after (r .room) (D .puts (r .thing) (r .to) (r .seen))
+    pub after-room : {o′ : List ℕ} {to i : ℕ} → Ready (after J ws) o p s at → Done J o p s at o′ to i → Room o′ i (length ws)
+    after-room r D = room-after (target J (r .thing)) ws (r .room) (D .puts (r .thing) (r .to) (r .seen)) refl
 
     pub after-done : {o′ o″ : List ℕ} {to i end : ℕ} → Done J o p s at o′ to i → Put ws o′ i o″ end → Done (after J ws) o p s at o″ to end
     after-done D f = record { ends = D .ends; puts = λ x e k. put-then (D .puts x e k) f }
@@ -45,7 +48,7 @@ module _ {s : List ℕ} {at : ℕ} {o : List ℕ} {p : ℕ} where
       thing = r .thing .1;
       to = r .to;
       seen = second (r .seen) (D .ends);
-      room = room-after (r .room) (D .puts (r .thing .0) _ (first (r .seen)));
+      room = room-after (target J (r .thing .0)) (target K (r .thing .1)) (r .room) (D .puts (r .thing .0) _ (first (r .seen))) refl;
     }
 
     pub next-done : {o′ o″ : List ℕ} {i j to end : ℕ} → Done J o p s at o′ i j → Done K o′ j s i o″ to end → Done (J next K) o p s at o″ to end
@@ -71,7 +74,7 @@ pub record Plan (J K : Job) (s : List ℕ) (at : ℕ) : Type 0 where
 module _ {J K : Job} {s : List ℕ} {at : ℕ} (P : Plan J K s at) where
   pub ready-as : {o : List ℕ} {p : ℕ} → Ready J o p s at → Ready K o p s at
   ready-as r = let y = P .plan (r .thing) (r .to) (r .seen) in
-      record { thing = y .thing; to = r .to; seen = y .seen; room = room-as (y .same) (r .room) }
+      record { thing = y .thing; to = r .to; seen = y .seen; room = record { fits = omega (arith, r .room .fits, ap length (y .same)) } }
 
   pub done-as : {o o′ : List ℕ} {p to end : ℕ} → Done K o p s at o′ to end → Done J o p s at o′ to end
   done-as D = record {

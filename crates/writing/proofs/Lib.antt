@@ -1,4 +1,3 @@
-pub mod Puts
 pub mod Jobs
 pub mod Plans
 pub mod Ways

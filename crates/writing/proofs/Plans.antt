@@ -1,26 +1,26 @@
 -- How each form is written, step by step: the plan of each writer. What is read is taken apart as those who skip do it; that the steps write the
 -- form's words is an equation of words for each form.
 -- Assumes nothing.
-use Prim.Native.Nat.{ℕ, zero, suc, _+_, _-_, _%_, _≤_, _<_}
+use Prim.Native.Nat.{ℕ, suc, _+_, _-_, _%_}
 use mathlib.Core.Path.{_≡_, refl, sym, ap, _∙_}
-use mathlib.Core.Bool.{Bool, true, false, _&&_, false≢true}
+use mathlib.Core.Bool.{true, false, false≢true, and-eq-true-iff}
 use mathlib.Core.List.{List, [], _∷_, _++_, append-assoc, append-nil}
 use native.Mathlib.Omega.{arith}
-use lib.ListN.{length, getD}
-use Rattle.language.specs.Term.{rules, images, Term, Terms, Arms, var, kvar, fun, call, bind, con, cases, nil, cons, none, arm, size, sizeᵃ}
+use lib.ListN.{getD}
+use Rattle.language.specs.Term.{rules, images, Term, Terms, Arms, fun, call, bind, con, cases, nil, cons, none, arm, size, sizeᵃ}
 use Rattle.language.specs.Words.{head, words, wordsᵗ, wordsᵃ}
 use Rattle.language.specs.Run.{atom, atoms}
-use Rattle.language.specs.Image.{passing, carried, carrieds, chain, passingᵃ, downto, calling, making}
+use Rattle.language.specs.Image.{passing, carried, carrieds, chain, passingᵃ, calling, making}
 use Rattle.language.specs.Limits.{Rangedᵗ, Rangedᵃ, r-nil, r-cons, r-none, r-arm}
 use Rattle.language.specs.declared.Parts.{Parts}
 use Rattle.language.specs.declared.Parts.the-variants.{Nothing, Body, FunctionAndArguments, BoundAndBody, CountAndArguments, SubjectAndArms, ArityAndBody}
-use Rattle.language.proofs.Forms.{passing-atom, passing-build}
+use Rattle.language.proofs.Forms.{passing-atom, passing-build, size-carrieds}
 use Rattle.language.proofs.Places.{first-word, next-words}
-use Rattle.atoms.specs.Standing.{term, terms, arms, atomic, atomics, over, _then_, Thing, Headed, Seen, AtomAt}
+use Rattle.atoms.specs.Standing.{term, terms, arms, atomic, atomics, Seen, AtomAt, Parted}
 use Rattle.atoms.proofs.Opened.{Opened, o-var, o-fun, o-call, o-bind, o-con, o-cases, opened}
-use Rattle.atoms.proofs.Standing.{Some, open-var, open-fun, open-call, open-bind, open-con, open-cases, open-nil, open-cons, open-none, open-arm, no-arm}
+use Rattle.atoms.proofs.Standing.{open-var, open-fun, open-call, open-bind, open-con, open-cases, open-nil, open-cons, open-none, open-arm, no-arm}
 use Rattle.atoms.proofs.Tests.{Loose, loose}
-use Rattle.writing.specs.Jobs.{Job, passed, kept, keeps, chained, branches, before, after, skipped, _next_, linked, handed, reads, target, links}
+use Rattle.writing.specs.Jobs.{passed, kept, keeps, chained, branches, before, after, skipped, _next_, linked, handed, links}
 use Rattle.writing.proofs.Jobs.{As, Plan}
 
 -- "A chain is, for each of its terms in order, 0201 0401 and the term's passing form; then 0201 and the ending."
@@ -28,11 +28,6 @@ words-chain : (ts : Terms) (e : Term) → 0x0201 ∷ words images (chain ts e) �
 unfolding words passing links
 words-chain nil e = refl
 words-chain (cons t ts) e = simp (append-nil, words-chain ts e, append-assoc)
-
-size-carrieds : (ts : Terms) → size (carrieds ts) ≡ size ts
-unfolding size carrieds
-size-carrieds nil = refl
-size-carrieds (cons t ts) = ap suc (size-carrieds ts)
 
 size-arms : (ps : Arms) → sizeᵃ (passingᵃ ps) ≡ sizeᵃ ps
 unfolding sizeᵃ passingᵃ
@@ -44,7 +39,8 @@ atom-words : (t : Term) → atom t ≡ true → words images (passing t) ≡ (0x
 unfolding words
 atom-words t e = ap (words images) (passing-atom t e) ∙ ap (λ (l : List ℕ). 0x0201 ∷ 0x0401 ∷ head 9 0 ∷ l) (append-nil (words images (carried t)))
 
-call-words : (f : Term) (ps : Terms) {n : ℕ} → size ps ≡ n → words images (passing (call f ps)) ≡ links (cons f ps) ++ (0x0201 ∷ words images (calling n))
+call-words : (f : Term) (ps : Terms) {n : ℕ} → size ps ≡ n
+    → words images (passing (call f ps)) ≡ links (cons f ps) ++ (0x0201 ∷ words images (calling n))
 unfolding words passing
 call-words f ps e =
     words-chain (cons f ps) (calling (size ps)) ∙ ap (λ (m : ℕ). links (cons f ps) ++ (0x0201 ∷ words images (calling m))) e
@@ -75,7 +71,8 @@ fun-words : (o a : ℕ) (b : Term) {w : ℕ} → w ≡ head (2 + o) (a + 0)
 unfolding words carried
 fun-words o a b e = ap (λ (w : ℕ). w ∷ 0x0401 ∷ (words images (passing b) ++ (head 9 0 ∷ []))) (omega arith)
 
-con-words : (t : ℕ) (ps : Terms) {w n : ℕ} → w ≡ head 6 t → n ≡ size ps → words images (carried (con t ps)) ≡ (w ∷ n ∷ []) ++ wordsᵗ images (carrieds ps)
+con-words : (t : ℕ) (ps : Terms) {w n : ℕ} → w ≡ head 6 t → n ≡ size ps
+    → words images (carried (con t ps)) ≡ (w ∷ n ∷ []) ++ wordsᵗ images (carrieds ps)
 unfolding words carried
 con-words t ps e q = let z = size-carrieds ps in cc
 
@@ -85,10 +82,6 @@ loosened k = record { good = (k .good .0, k .good .1); held = k .held }
 
 loosenedᵗ : {s : List ℕ} {at to d n : ℕ} {ts : Terms} → Seen (atomics d n) s at to ts → Seen (terms d n) s at to ts
 loosenedᵗ k = record { good = (k .good .0, k .good .1, k .good .2); held = k .held }
-
-both-true : (a b : Bool) → a && b ≡ true → (a ≡ true) × (b ≡ true)
-both-true true b e = (refl, e)
-both-true false b e = absurd (false≢true e)
 
 -- what stands at a place, as the plan of its writer has it
 module _ {s : List ℕ} {at to d : ℕ} where
@@ -149,7 +142,8 @@ module _ {s : List ℕ} {at to d : ℕ} where
     no-links z r-nil k = let y = open-nil z r-nil k in record { thing = y .thing; seen = y .seen; same = refl }
     no-links z (r-cons r rs) k = absurd (omega (arith, k .good .2))
 
-    more-links : {ts : Terms} → (n ≡ 0 → ⊥) → Rangedᵗ rules ts → Seen (terms d n) s at to ts → As (chained d n) (linked d next chained d (n - 1)) s at to ts
+    more-links : {ts : Terms} → (n ≡ 0 → ⊥) → Rangedᵗ rules ts → Seen (terms d n) s at to ts
+        → As (chained d n) (linked d next chained d (n - 1)) s at to ts
     unfolding links open-cons
     more-links z r-nil k = absurd (z (sym (k .good .2)))
     more-links z (r-cons r rs) k = let y = open-cons z (r-cons r rs) k in record { thing = y .thing; seen = y .seen; same = refl }
@@ -159,12 +153,13 @@ module _ {s : List ℕ} {at to d : ℕ} where
     no-atoms z r-nil k = let y = open-nil z r-nil (loosenedᵗ k) in record { thing = y .thing; seen = y .seen; same = refl }
     no-atoms z (r-cons r rs) k = absurd (omega (arith, k .good .2))
 
-    more-atoms : {ts : Terms} → (n ≡ 0 → ⊥) → Rangedᵗ rules ts → Seen (atomics d n) s at to ts → As (keeps d n) (kept d next keeps d (n - 1)) s at to ts
+    more-atoms : {ts : Terms} → (n ≡ 0 → ⊥) → Rangedᵗ rules ts → Seen (atomics d n) s at to ts
+        → As (keeps d n) (kept d next keeps d (n - 1)) s at to ts
     unfolding words carried atom open-cons
     more-atoms z r-nil k = absurd (z (sym (k .good .2)))
     more-atoms z (r-cons {t} {ts} r rs) k =
         let y = open-cons z (r-cons r rs) (loosenedᵗ k) in
-        let a = both-true (atom t) (atoms ts) (k .good .3) in
+        let a = and-eq-true-iff (atom t) (atoms ts) .0 (k .good .3) in
         let g = y .seen .good in record {
           thing = y .thing;
           seen = record { good = ((g .0 .0, g .0 .1, a .0), (g .1 .0, g .1 .1, g .1 .2, a .1)); held = y .seen .held };
@@ -193,29 +188,29 @@ module _ {s : List ℕ} {at d : ℕ} where
         record { thing = t; seen = record { good = (k .good .0, k .good .1, a); held = k .held }; same = atom-words t a };
   }
 
-  pub plan-call : Headed FunctionAndArguments s at
+  pub plan-call : Parted FunctionAndArguments d s at
       → Plan (passed d) (skipped 1 next after (chained (d - 1) (getD s at 0 % 256 + 1)) (0x0201 ∷ words images (calling (getD s at 0 % 256)))) s at
   plan-call H = record { plan = λ t to k. as-call (opened (k .good .0) (k .held) H) k }
 
-  pub plan-let : Headed BoundAndBody s at
+  pub plan-let : Parted BoundAndBody d s at
       → Plan (passed d) (skipped 1 next linked (d - 1) next before (0x0201 ∷ 0x0500 ∷ head 9 0 ∷ []) (handed (d - 1) (head 9 1))) s at
   plan-let H = record { plan = λ t to k. as-let (opened (k .good .0) (k .held) H) k }
 
-  pub plan-build : {n : ℕ} → Headed CountAndArguments s at → n ≡ getD s (at + 1) 0 → AtomAt d s at false
+  pub plan-build : {n : ℕ} → Parted CountAndArguments d s at → n ≡ getD s (at + 1) 0 → AtomAt d s at false
       → Plan (passed d) (skipped 2 next after (chained (d - 1) n) (0x0201 ∷ words images (making (getD s at 0 % 256) n))) s at
   plan-build H e A = record { plan = λ t to k. as-build e (sym (A .is t to k)) (opened (k .good .0) (k .held) H) k }
 
-  pub plan-match : Headed SubjectAndArms s at
+  pub plan-match : Parted SubjectAndArms d s at
       → Plan (passed d) (skipped 1 next linked (d - 1) next before (0x0201 ∷ getD s at 0 ∷ head 9 0 ∷ []) (branches (d - 1) (getD s at 0 % 256))) s at
   plan-match H = record { plan = λ t to k. as-match (opened (k .good .0) (k .held) H) k }
 
-  pub plan-var : Headed Nothing s at → Plan (kept d) (after (skipped 1) (head 1 (getD s at 0 % 256) ∷ [])) s at
+  pub plan-var : Parted Nothing d s at → Plan (kept d) (after (skipped 1) (head 1 (getD s at 0 % 256) ∷ [])) s at
   plan-var H = record { plan = λ t to k. as-var (opened (k .good .0) (k .held) H) k }
 
-  pub plan-function : Headed Body s at → Plan (kept d) (skipped 1 next before ((getD s at 0 + 1) ∷ []) (handed (d - 1) (head 9 0))) s at
+  pub plan-function : Parted Body d s at → Plan (kept d) (skipped 1 next before ((getD s at 0 + 1) ∷ []) (handed (d - 1) (head 9 0))) s at
   plan-function H = record { plan = λ t to k. as-function (opened (k .good .0) (k .held) H) k }
 
-  pub plan-constructor : {n : ℕ} → Headed CountAndArguments s at → n ≡ getD s (at + 1) 0
+  pub plan-constructor : {n : ℕ} → Parted CountAndArguments d s at → n ≡ getD s (at + 1) 0
       → Plan (kept d) (skipped 2 next before (getD s at 0 ∷ getD s (at + 1) 0 ∷ []) (keeps (d - 1) n)) s at
   plan-constructor H e = record { plan = λ t to k. as-constructor e (opened (k .good .0) (k .held) H) k }
 
@@ -240,8 +235,8 @@ module _ {s : List ℕ} {at d : ℕ} where
     plan-arms z = record { plan = λ ps to k. more-arms z (k .good .0) k }
 
   -- where no term, or no atom, can stand
-  pub plan-arity : Headed ArityAndBody s at → Plan (passed d) (skipped 0) s at
+  pub plan-arity : Parted ArityAndBody d s at → Plan (passed d) (skipped 0) s at
   plan-arity H = record { plan = λ t to k. no-arm (opened (k .good .0) (k .held) H) }
 
-  pub plan-loose : {P : Parts} → Headed P s at → Loose P → Plan (kept d) (skipped 0) s at
+  pub plan-loose : {P : Parts} → Parted P d s at → Loose P → Plan (kept d) (skipped 0) s at
   plan-loose H l = record { plan = λ t to k. absurd (false≢true (loose (opened (k .good .0) (k .held) H) l ∙ k .good .2)) }

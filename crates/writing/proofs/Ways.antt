@@ -2,31 +2,34 @@
 -- for the next call or was done. `search` finds a law's premises in what is known at that place of the code.
 -- Assumes nothing.
 use Prim.Native.Nat.{ℕ, _+_, _-_, _*_, _%_, _≤_, _<_}
-use mathlib.Core.Path.{_≡_, refl, sym, ap, _∙_}
+use mathlib.Core.Path.{_≡_, refl}
 use mathlib.Core.Bool.{true, false}
 use mathlib.Core.List.{List, [], _∷_}
 use native.Mathlib.Omega.{arith}
 use borrow.Author.Needs.{needs}
-use lib.ListN.{length, getD}
+use lib.ListN.{length, getD, length-append}
 use Rattle.language.specs.Term.{rules, images, Term}
 use Rattle.language.specs.Words.{head, words}
-use Rattle.language.specs.Image.{calling, making}
+use Rattle.language.specs.Image.{passing, calling, making}
+use Rattle.language.specs.Kinds.{mostByte}
 use Rattle.language.specs.Limits.{Ranged, r-var, r-kvar, r-fun, r-call, r-bind, r-con, r-cases}
 use Rattle.language.specs.Places.{Held}
 use Rattle.language.proofs.Places.{first-word}
 use Rattle.language.specs.declared.Parts.{Parts}
 use Rattle.language.specs.declared.Parts.the-variants.{Nothing, Body, FunctionAndArguments, BoundAndBody, CountAndArguments, SubjectAndArms, ArityAndBody}
-use Rattle.atoms.specs.Standing.{term, Seen, Stands, Headed, AtomAt, Parted, Counted}
+use Rattle.atoms.specs.Standing.{term, Seen, Stands, AtomAt, Parted, Counted}
 use Rattle.atoms.proofs.Standing.{arms-inside}
 use Rattle.atoms.proofs.Opened.{Opened, o-call, opened}
-use Rattle.atoms.proofs.Ways.{headed, parted}
+use Rattle.atoms.proofs.Ways.{parted}
 use Rattle.atoms.proofs.Tests.{Loose, told, atom-var, atom-fun}
-use Rattle.writing.specs.Jobs.{Room, Put, Job, passed, kept, keeps, chained, branches, linked, handed, Ready, Done}
+use Rattle.runs.specs.Runs.{Room, Put}
+use Rattle.sizes.proofs.Lengths.{of-calling, of-making}
+use Rattle.writing.specs.Jobs.{passed, kept, keeps, chained, branches, before, after, _next_, linked, handed, Ready, Done}
 use Rattle.writing.proofs.Jobs.{before-room, before-ready, before-done, after-ready, after-room, after-done, next-first, next-second, next-done, skipped-done, ready-as, done-as}
 use Rattle.writing.proofs.Plans.{loosened, plan-atom, plan-call, plan-let, plan-build, plan-match, plan-var, plan-function, plan-constructor, plan-no-links, plan-links, plan-no-atoms, plan-atoms, plan-no-arms, plan-arms, plan-arity, plan-loose}
 
 -- numbers that are small enough for what is done with them
-few-arguments : {s : List ℕ} {at to d : ℕ} {t : Term} → Opened FunctionAndArguments t → Seen (term d) s at to t → getD s at 0 % 256 < 255
+few-arguments : {s : List ℕ} {at to d : ℕ} {t : Term} → Opened FunctionAndArguments t → Seen (term d) s at to t → getD s at 0 % 256 < mostByte
 unfolding words
 few-arguments (o-call h r rs) k = omega (arith, first-word (k .held))
 
@@ -39,6 +42,16 @@ small-head (r-call l h r rs) k = omega (arith, first-word k)
 small-head (r-bind r r′) k = omega (arith, first-word k)
 small-head (r-con h l rs) k = omega (arith, first-word k)
 small-head (r-cases l h r rs) k = omega (arith, first-word k)
+
+-- there is room for a handed form, whatever it is handed
+reworded : {s : List ℕ} {at d : ℕ} {o : List ℕ} {p w v : ℕ} → Ready (handed d w) o p s at → Ready (handed d v) o p s at
+reworded {w = w} {v} r =
+    let ws = words images (passing (r .thing)) in record {
+      thing = r .thing;
+      to = r .to;
+      seen = r .seen;
+      room = record { fits = omega (arith, r .room .fits, length-append ws (w ∷ []), length-append ws (v ∷ [])) };
+    }
 
 module _ {s : List ℕ} {at : ℕ} {o : List ℕ} {p : ℕ} where
   module _ {d : ℕ} where
@@ -56,145 +69,171 @@ module _ {s : List ℕ} {at : ℕ} {o : List ℕ} {p : ℕ} where
     stands-kept r = record { thing = r .thing; to = r .to; seen = loosened (r .seen) }
 
     -- no term has an arm's head, and no atom the head of a call, a let or a match
-    pub passed-arity : Headed ArityAndBody s at → Done (passed d) o p s at o at p
+    pub passed-arity : Parted ArityAndBody d s at → Done (passed d) o p s at o at p
     passed-arity H = done-as (plan-arity H) (skipped-done 0 (omega arith))
 
     pub kept-loose : {P Q : Parts} → Parted P d s at → P ≡ Q → Loose Q → Done (kept d) o p s at o at p
-    kept-loose k e l = done-as (plan-loose (headed k e) l) (skipped-done 0 (omega arith))
+    kept-loose k e l = done-as (plan-loose (parted k e) l) (skipped-done 0 (omega arith))
 
     -- an atom's passing form
     module _ (A : AtomAt d s at true) where
-      pub atom-room : Ready (passed d) o p s at → Room o p (0x0201 ∷ 0x0401 ∷ head 9 0 ∷ [])
+      pub atom-room : Ready (passed d) o p s at → Room o p 3
       atom-room r = before-room (ready-as (plan-atom A) r)
 
-      pub atom-next : {o′ : List ℕ} {i : ℕ} → Ready (passed d) o p s at → Put (0x0201 ∷ 0x0401 ∷ head 9 0 ∷ []) o p o′ i → Ready (kept d) o′ i s at
-      atom-next r f = before-ready (ready-as (plan-atom A) r) f
+      module _ {o′ : List ℕ} {i : ℕ} where
+        pub atom-next : {a b c : ℕ} → Ready (passed d) o p s at → Put (a ∷ b ∷ c ∷ []) o p o′ i → Ready (kept d) o′ i s at
+        atom-next r f = before-ready (ready-as (plan-atom A) r) f refl
 
-      pub atom-done : {o′ o″ : List ℕ} {i to end : ℕ} → Put (0x0201 ∷ 0x0401 ∷ head 9 0 ∷ []) o p o′ i → Done (kept d) o′ i s at o″ to end
-          → Done (passed d) o p s at o″ to end
-      atom-done f D = done-as (plan-atom A) (before-done f D)
+        pub atom-done : {o″ : List ℕ} {to end : ℕ} → Put (0x0201 ∷ 0x0401 ∷ head 9 0 ∷ []) o p o′ i → Done (kept d) o′ i s at o″ to end
+            → Done (passed d) o p s at o″ to end
+        atom-done f D = done-as (plan-atom A) (before-done f D)
 
     -- a call: the chain over the called term and the arguments, and its end
     module _ (H : Parted FunctionAndArguments d s at) where
-      pub call-ready : Ready (passed d) o p s at → Ready (chained (d - 1) (getD s at 0 % 256 + 1)) o p s (at + 1)
-      call-ready r = after-ready (next-second (ready-as (plan-call (H .headed)) r) (skipped-done 1 refl))
+      call-rest : Ready (passed d) o p s at
+          → Ready (after (chained (d - 1) (getD s at 0 % 256 + 1)) (0x0201 ∷ words images (calling (getD s at 0 % 256)))) o p s (at + 1)
+      call-rest r = next-second (ready-as (plan-call H) r) (skipped-done 1 refl)
 
-      pub call-few : Ready (passed d) o p s at → getD s at 0 % 256 < 255
-      call-few r = few-arguments (opened (r .seen .good .0) (r .seen .held) (H .headed)) (r .seen)
+      pub call-few : Ready (passed d) o p s at → getD s at 0 % 256 < mostByte
+      call-few r = few-arguments (opened (r .seen .good .0) (r .seen .held) H) (r .seen)
+
+      pub call-ready : Ready (passed d) o p s at → Ready (chained (d - 1) (getD s at 0 % 256 + 1)) o p s (at + 1)
+      call-ready r = after-ready (call-rest r)
 
       module _ {o′ : List ℕ} {to i : ℕ} where
         pub call-room : Ready (passed d) o p s at → Done (chained (d - 1) (getD s at 0 % 256 + 1)) o p s (at + 1) o′ to i
-            → Room o′ i (0x0201 ∷ words images (calling (getD s at 0 % 256)))
-        call-room r D = after-room (next-second (ready-as (plan-call (H .headed)) r) (skipped-done 1 refl)) D
+            → Room o′ i (getD s at 0 % 256 + 4)
+        call-room r D = record { fits = omega (arith, after-room (call-rest r) D .fits, of-calling (getD s at 0 % 256)) }
 
         pub call-done : {o″ : List ℕ} {end : ℕ} → Done (chained (d - 1) (getD s at 0 % 256 + 1)) o p s (at + 1) o′ to i
             → Put (0x0201 ∷ words images (calling (getD s at 0 % 256))) o′ i o″ end → Done (passed d) o p s at o″ to end
-        call-done D f = done-as (plan-call (H .headed)) (next-done (skipped-done 1 refl) (after-done D f))
+        call-done D f = done-as (plan-call H) (next-done (skipped-done 1 refl) (after-done D f))
 
     -- a let: its bound term, an added function, and its body
     module _ (H : Parted BoundAndBody d s at) where
+      let-rest : Ready (passed d) o p s at
+          → Ready (linked (d - 1) next before (0x0201 ∷ 0x0500 ∷ head 9 0 ∷ []) (handed (d - 1) (head 9 1))) o p s (at + 1)
+      let-rest r = next-second (ready-as (plan-let H) r) (skipped-done 1 refl)
+
       pub let-ready : Ready (passed d) o p s at → Ready (linked (d - 1)) o p s (at + 1)
-      let-ready r = next-first (next-second (ready-as (plan-let (H .headed)) r) (skipped-done 1 refl))
+      let-ready r = next-first (let-rest r)
 
       module _ {o′ : List ℕ} {i j : ℕ} where
-        pub let-room : Ready (passed d) o p s at → Done (linked (d - 1)) o p s (at + 1) o′ i j → Room o′ j (0x0201 ∷ 0x0500 ∷ head 9 0 ∷ [])
-        let-room r D = before-room (next-second (next-second (ready-as (plan-let (H .headed)) r) (skipped-done 1 refl)) D)
+        pub let-room : Ready (passed d) o p s at → Done (linked (d - 1)) o p s (at + 1) o′ i j → Room o′ j 3
+        let-room r D = before-room (next-second (let-rest r) D)
 
         module _ {o″ : List ℕ} {l : ℕ} where
-          pub let-next : Ready (passed d) o p s at → Done (linked (d - 1)) o p s (at + 1) o′ i j → Put (0x0201 ∷ 0x0500 ∷ head 9 0 ∷ []) o′ j o″ l
-              → Ready (handed (d - 1) (head 9 1)) o″ l s i
-          let-next r D f = before-ready (next-second (next-second (ready-as (plan-let (H .headed)) r) (skipped-done 1 refl)) D) f
+          pub let-next : {w : ℕ} → Ready (passed d) o p s at → Done (linked (d - 1)) o p s (at + 1) o′ i j
+              → Put (0x0201 ∷ 0x0500 ∷ head 9 0 ∷ []) o′ j o″ l
+              → Ready (handed (d - 1) w) o″ l s i
+          let-next r D f = reworded (before-ready (next-second (let-rest r) D) f refl)
 
           pub let-done : {o‴ : List ℕ} {to end : ℕ} → Done (linked (d - 1)) o p s (at + 1) o′ i j → Put (0x0201 ∷ 0x0500 ∷ head 9 0 ∷ []) o′ j o″ l
               → Done (handed (d - 1) (head 9 1)) o″ l s i o‴ to end → Done (passed d) o p s at o‴ to end
-          let-done D f E = done-as (plan-let (H .headed)) (next-done (skipped-done 1 refl) (next-done D (before-done f E)))
+          let-done D f E = done-as (plan-let H) (next-done (skipped-done 1 refl) (next-done D (before-done f E)))
 
     -- a match: its subject, an added function, and its arms
     module _ (H : Parted SubjectAndArms d s at) where
+      match-rest : Ready (passed d) o p s at
+          → Ready (linked (d - 1) next before (0x0201 ∷ getD s at 0 ∷ head 9 0 ∷ []) (branches (d - 1) (getD s at 0 % 256))) o p s (at + 1)
+      match-rest r = next-second (ready-as (plan-match H) r) (skipped-done 1 refl)
+
       pub match-ready : Ready (passed d) o p s at → Ready (linked (d - 1)) o p s (at + 1)
-      match-ready r = next-first (next-second (ready-as (plan-match (H .headed)) r) (skipped-done 1 refl))
+      match-ready r = next-first (match-rest r)
 
       module _ {o′ : List ℕ} {i j : ℕ} where
-        pub match-room : Ready (passed d) o p s at → Done (linked (d - 1)) o p s (at + 1) o′ i j → Room o′ j (0x0201 ∷ getD s at 0 ∷ head 9 0 ∷ [])
-        match-room r D = before-room (next-second (next-second (ready-as (plan-match (H .headed)) r) (skipped-done 1 refl)) D)
+        pub match-room : Ready (passed d) o p s at → Done (linked (d - 1)) o p s (at + 1) o′ i j → Room o′ j 3
+        match-room r D = before-room (next-second (match-rest r) D)
 
         module _ {o″ : List ℕ} {l : ℕ} where
-          pub match-next : Ready (passed d) o p s at → Done (linked (d - 1)) o p s (at + 1) o′ i j → Put (0x0201 ∷ getD s at 0 ∷ head 9 0 ∷ []) o′ j o″ l
+          pub match-next : Ready (passed d) o p s at → Done (linked (d - 1)) o p s (at + 1) o′ i j
+              → Put (0x0201 ∷ getD s at 0 ∷ head 9 0 ∷ []) o′ j o″ l
               → Ready (branches (d - 1) (getD s at 0 % 256)) o″ l s i
-          match-next r D f = before-ready (next-second (next-second (ready-as (plan-match (H .headed)) r) (skipped-done 1 refl)) D) f
+          match-next r D f = before-ready (next-second (match-rest r) D) f refl
 
-          pub match-done : {o‴ : List ℕ} {to end : ℕ} → Done (linked (d - 1)) o p s (at + 1) o′ i j → Put (0x0201 ∷ getD s at 0 ∷ head 9 0 ∷ []) o′ j o″ l
+          pub match-done : {o‴ : List ℕ} {to end : ℕ} → Done (linked (d - 1)) o p s (at + 1) o′ i j
+              → Put (0x0201 ∷ getD s at 0 ∷ head 9 0 ∷ []) o′ j o″ l
               → Done (branches (d - 1) (getD s at 0 % 256)) o″ l s i o‴ to end → Done (passed d) o p s at o‴ to end
-          match-done D f E = done-as (plan-match (H .headed)) (next-done (skipped-done 1 refl) (next-done D (before-done f E)))
+          match-done D f E = done-as (plan-match H) (next-done (skipped-done 1 refl) (next-done D (before-done f E)))
 
     -- a constructor: the chain over its arguments, and its end; or, of atoms, its two words and its arguments
     module _ (H : Parted CountAndArguments d s at) {n : ℕ} (N : Counted n s at) where
       module _ (A : AtomAt d s at false) where
+        build-rest : Ready (passed d) o p s at
+            → Ready (after (chained (d - 1) n) (0x0201 ∷ words images (making (getD s at 0 % 256) n))) o p s (at + 2)
+        build-rest r = next-second (ready-as (plan-build H (N .is) A) r) (skipped-done 2 refl)
+
         pub build-ready : Ready (passed d) o p s at → Ready (chained (d - 1) n) o p s (at + 2)
-        build-ready r = after-ready (next-second (ready-as (plan-build (H .headed) (N .is) A) r) (skipped-done 2 refl))
+        build-ready r = after-ready (build-rest r)
 
         module _ {o′ : List ℕ} {to i : ℕ} where
-          pub build-room : Ready (passed d) o p s at → Done (chained (d - 1) n) o p s (at + 2) o′ to i
-              → Room o′ i (0x0201 ∷ words images (making (getD s at 0 % 256) n))
-          build-room r D = after-room (next-second (ready-as (plan-build (H .headed) (N .is) A) r) (skipped-done 2 refl)) D
+          pub build-room : Ready (passed d) o p s at → Done (chained (d - 1) n) o p s (at + 2) o′ to i → Room o′ i (n + 5)
+          build-room r D = record { fits = omega (arith, after-room (build-rest r) D .fits, of-making (getD s at 0 % 256) n) }
 
           pub build-done : {o″ : List ℕ} {end : ℕ} → Done (chained (d - 1) n) o p s (at + 2) o′ to i
               → Put (0x0201 ∷ words images (making (getD s at 0 % 256) n)) o′ i o″ end → Done (passed d) o p s at o″ to end
-          build-done D f = done-as (plan-build (H .headed) (N .is) A) (next-done (skipped-done 2 refl) (after-done D f))
+          build-done D f = done-as (plan-build H (N .is) A) (next-done (skipped-done 2 refl) (after-done D f))
 
-      pub constructor-room : Ready (kept d) o p s at → Room o p (getD s at 0 ∷ getD s (at + 1) 0 ∷ [])
-      constructor-room r = before-room (next-second (ready-as (plan-constructor (H .headed) (N .is)) r) (skipped-done 2 refl))
+      constructor-rest : Ready (kept d) o p s at → Ready (before (getD s at 0 ∷ getD s (at + 1) 0 ∷ []) (keeps (d - 1) n)) o p s (at + 2)
+      constructor-rest r = next-second (ready-as (plan-constructor H (N .is)) r) (skipped-done 2 refl)
+
+      pub constructor-room : Ready (kept d) o p s at → Room o p 2
+      constructor-room r = before-room (constructor-rest r)
 
       module _ {o′ : List ℕ} {i : ℕ} where
-        pub constructor-next : Ready (kept d) o p s at → Put (getD s at 0 ∷ getD s (at + 1) 0 ∷ []) o p o′ i → Ready (keeps (d - 1) n) o′ i s (at + 2)
-        constructor-next r f = before-ready (next-second (ready-as (plan-constructor (H .headed) (N .is)) r) (skipped-done 2 refl)) f
+        pub constructor-next : {a b : ℕ} → Ready (kept d) o p s at → Put (a ∷ b ∷ []) o p o′ i → Ready (keeps (d - 1) n) o′ i s (at + 2)
+        constructor-next r f = before-ready (constructor-rest r) f refl
 
-        pub constructor-done : {o″ : List ℕ} {to end : ℕ} → Put (getD s at 0 ∷ getD s (at + 1) 0 ∷ []) o p o′ i → Done (keeps (d - 1) n) o′ i s (at + 2) o″ to end
-            → Done (kept d) o p s at o″ to end
-        constructor-done f D = done-as (plan-constructor (H .headed) (N .is)) (next-done (skipped-done 2 refl) (before-done f D))
+        pub constructor-done : {o″ : List ℕ} {to end : ℕ} → Put (getD s at 0 ∷ getD s (at + 1) 0 ∷ []) o p o′ i
+            → Done (keeps (d - 1) n) o′ i s (at + 2) o″ to end → Done (kept d) o p s at o″ to end
+        constructor-done f D = done-as (plan-constructor H (N .is)) (next-done (skipped-done 2 refl) (before-done f D))
 
     -- a variable's carried form, and a function's
-    module _ (H : Headed Nothing s at) where
-      pub var-room : Ready (kept d) o p s at → Room o p (head 1 (getD s at 0 % 256) ∷ [])
+    module _ (H : Parted Nothing d s at) where
+      pub var-room : Ready (kept d) o p s at → Room o p 1
       var-room r = after-room (ready-as (plan-var H) r) (skipped-done 1 refl)
 
       pub var-done : {o′ : List ℕ} {end : ℕ} → Put (head 1 (getD s at 0 % 256) ∷ []) o p o′ end → Done (kept d) o p s at o′ (at + 1) end
       var-done f = done-as (plan-var H) (after-done (skipped-done 1 refl) f)
 
     module _ (H : Parted Body d s at) where
-      pub function-room : Ready (kept d) o p s at → Room o p ((getD s at 0 + 1) ∷ [])
-      function-room r = before-room (next-second (ready-as (plan-function (H .headed)) r) (skipped-done 1 refl))
+      function-rest : Ready (kept d) o p s at → Ready (before ((getD s at 0 + 1) ∷ []) (handed (d - 1) (head 9 0))) o p s (at + 1)
+      function-rest r = next-second (ready-as (plan-function H) r) (skipped-done 1 refl)
+
+      pub function-room : Ready (kept d) o p s at → Room o p 1
+      function-room r = before-room (function-rest r)
 
       module _ {o′ : List ℕ} {i : ℕ} where
-        pub function-next : Ready (kept d) o p s at → Put ((getD s at 0 + 1) ∷ []) o p o′ i → Ready (handed (d - 1) (head 9 0)) o′ i s (at + 1)
-        function-next r f = before-ready (next-second (ready-as (plan-function (H .headed)) r) (skipped-done 1 refl)) f
+        pub function-next : {a w : ℕ} → Ready (kept d) o p s at → Put (a ∷ []) o p o′ i → Ready (handed (d - 1) w) o′ i s (at + 1)
+        function-next r f = reworded (before-ready (function-rest r) f refl)
 
-        pub function-done : {o″ : List ℕ} {to end : ℕ} → Put ((getD s at 0 + 1) ∷ []) o p o′ i → Done (handed (d - 1) (head 9 0)) o′ i s (at + 1) o″ to end
-            → Done (kept d) o p s at o″ to end
-        function-done f D = done-as (plan-function (H .headed)) (next-done (skipped-done 1 refl) (before-done f D))
+        pub function-done : {o″ : List ℕ} {to end : ℕ} → Put ((getD s at 0 + 1) ∷ []) o p o′ i
+            → Done (handed (d - 1) (head 9 0)) o′ i s (at + 1) o″ to end → Done (kept d) o p s at o″ to end
+        function-done f D = done-as (plan-function H) (next-done (skipped-done 1 refl) (before-done f D))
 
-    -- a passing form that is linked, or handed a continuation
-    pub link-room : Ready (linked d) o p s at → Room o p (0x0201 ∷ 0x0401 ∷ [])
+    -- a passing form that is linked, or handed a variable
+    pub link-room : Ready (linked d) o p s at → Room o p 2
     link-room r = before-room r
 
-    pub link-next : {o′ : List ℕ} {i : ℕ} → Ready (linked d) o p s at → Put (0x0201 ∷ 0x0401 ∷ []) o p o′ i → Ready (passed d) o′ i s at
-    link-next r f = before-ready r f
+    module _ {o′ : List ℕ} {i : ℕ} where
+      pub link-next : {a b : ℕ} → Ready (linked d) o p s at → Put (a ∷ b ∷ []) o p o′ i → Ready (passed d) o′ i s at
+      link-next r f = before-ready r f refl
 
-    pub link-done : {o′ o″ : List ℕ} {i to end : ℕ} → Put (0x0201 ∷ 0x0401 ∷ []) o p o′ i → Done (passed d) o′ i s at o″ to end
-        → Done (linked d) o p s at o″ to end
-    link-done f D = before-done f D
+      pub link-done : {o″ : List ℕ} {to end : ℕ} → Put (0x0201 ∷ 0x0401 ∷ []) o p o′ i → Done (passed d) o′ i s at o″ to end
+          → Done (linked d) o p s at o″ to end
+      link-done f D = before-done f D
 
     module _ {w : ℕ} where
-      pub handed-room : Ready (handed d w) o p s at → Room o p (0x0401 ∷ [])
+      pub handed-room : Ready (handed d w) o p s at → Room o p 1
       handed-room r = before-room r
 
       module _ {o′ : List ℕ} {i : ℕ} where
-        pub handed-next : Ready (handed d w) o p s at → Put (0x0401 ∷ []) o p o′ i → Ready (passed d) o′ i s at
-        handed-next r f = after-ready (before-ready r f)
+        pub handed-next : {a : ℕ} → Ready (handed d w) o p s at → Put (a ∷ []) o p o′ i → Ready (passed d) o′ i s at
+        handed-next r f = after-ready (before-ready r f refl)
 
         module _ {o″ : List ℕ} {to j : ℕ} where
-          pub handed-left : Ready (handed d w) o p s at → Put (0x0401 ∷ []) o p o′ i → Done (passed d) o′ i s at o″ to j → Room o″ j (w ∷ [])
-          handed-left r f D = after-room (before-ready r f) D
+          pub handed-left : {a : ℕ} → Ready (handed d w) o p s at → Put (a ∷ []) o p o′ i → Done (passed d) o′ i s at o″ to j → Room o″ j 1
+          handed-left r f D = after-room (before-ready r f refl) D
 
           pub handed-done : {o‴ : List ℕ} {end : ℕ} → Put (0x0401 ∷ []) o p o′ i → Done (passed d) o′ i s at o″ to j → Put (w ∷ []) o″ j o‴ end
               → Done (handed d w) o p s at o‴ to end
@@ -218,12 +257,6 @@ module _ {s : List ℕ} {at : ℕ} {o : List ℕ} {p : ℕ} where
         pub keeps-ready : Ready (keeps d n) o p s at → Ready (kept d) o p s at
         keeps-ready r = next-first (ready-as (plan-atoms z) r)
 
-        pub arm-inside : Ready (branches d n) o p s at → at + 1 < length s
-        arm-inside r = omega (arith, branches-inside r, z)
-
-        pub arm-room : Ready (branches d n) o p s at → Room o p (getD s at 0 ∷ getD s (at + 1) 0 ∷ [])
-        arm-room r = before-room (next-second (ready-as (plan-arms z) r) (skipped-done 2 refl))
-
         module _ {o′ : List ℕ} {i j : ℕ} where
           pub chain-next : Ready (chained d n) o p s at → Done (linked d) o p s at o′ i j → Ready (chained d (n - 1)) o′ j s i
           chain-next r D = next-second (ready-as (plan-links z) r) D
@@ -238,17 +271,85 @@ module _ {s : List ℕ} {at : ℕ} {o : List ℕ} {p : ℕ} where
             pub keeps-done : Done (kept d) o p s at o′ i j → Done (keeps d (n - 1)) o′ j s i o″ to end → Done (keeps d n) o p s at o″ to end
             keeps-done D E = done-as (plan-atoms z) (next-done D E)
 
+        arm-rest : Ready (branches d n) o p s at
+            → Ready (before (getD s at 0 ∷ getD s (at + 1) 0 ∷ []) (handed d (head 9 1) next branches d (n - 1))) o p s (at + 2)
+        arm-rest r = next-second (ready-as (plan-arms z) r) (skipped-done 2 refl)
+
+        pub arm-inside : Ready (branches d n) o p s at → at + 1 < length s
+        arm-inside r = omega (arith, branches-inside r, z)
+
+        pub arm-room : Ready (branches d n) o p s at → Room o p 2
+        arm-room r = before-room (arm-rest r)
+
         module _ {o′ : List ℕ} {j : ℕ} where
-          pub arm-next : Ready (branches d n) o p s at → Put (getD s at 0 ∷ getD s (at + 1) 0 ∷ []) o p o′ j → Ready (handed d (head 9 1)) o′ j s (at + 2)
-          arm-next r f = next-first (before-ready (next-second (ready-as (plan-arms z) r) (skipped-done 2 refl)) f)
+          pub arm-next : {a b w : ℕ} → Ready (branches d n) o p s at → Put (a ∷ b ∷ []) o p o′ j → Ready (handed d w) o′ j s (at + 2)
+          arm-next r f = reworded (next-first (before-ready (arm-rest r) f refl))
 
           module _ {o″ : List ℕ} {i l : ℕ} where
-            pub arms-next : Ready (branches d n) o p s at → Put (getD s at 0 ∷ getD s (at + 1) 0 ∷ []) o p o′ j → Done (handed d (head 9 1)) o′ j s (at + 2) o″ i l
+            pub arms-next : {a b : ℕ} → Ready (branches d n) o p s at → Put (a ∷ b ∷ []) o p o′ j → Done (handed d (head 9 1)) o′ j s (at + 2) o″ i l
                 → Ready (branches d (n - 1)) o″ l s i
-            arms-next r f D = next-second (before-ready (next-second (ready-as (plan-arms z) r) (skipped-done 2 refl)) f) D
+            arms-next r f D = next-second (before-ready (arm-rest r) f refl) D
 
-            pub arms-done : {o‴ : List ℕ} {to end : ℕ} → Put (getD s at 0 ∷ getD s (at + 1) 0 ∷ []) o p o′ j → Done (handed d (head 9 1)) o′ j s (at + 2) o″ i l
-                → Done (branches d (n - 1)) o″ l s i o‴ to end → Done (branches d n) o p s at o‴ to end
+            pub arms-done : {o‴ : List ℕ} {to end : ℕ} → Put (getD s at 0 ∷ getD s (at + 1) 0 ∷ []) o p o′ j
+                → Done (handed d (head 9 1)) o′ j s (at + 2) o″ i l → Done (branches d (n - 1)) o″ l s i o‴ to end
+                → Done (branches d n) o p s at o‴ to end
             arms-done f D E = done-as (plan-arms z) (next-done (skipped-done 2 refl) (before-done f (next-done D E)))
 
-pub ruleset ways = (headed, parted, told, atom-var, atom-fun, stands-passed, stands-kept, passed-arity, kept-loose, atom-room, atom-next, atom-done, call-ready, call-few, call-room, call-done, let-ready, let-room, let-next, let-done, match-ready, match-room, match-next, match-done, build-ready, build-room, build-done, constructor-room, constructor-next, constructor-done, var-room, var-done, function-room, function-next, function-done, link-room, link-next, link-done, handed-room, handed-next, handed-left, handed-done, chain-none, keeps-none, arms-none, chain-ready, keeps-ready, arm-inside, arm-room, chain-next, keeps-next, chain-done, keeps-done, arm-next, arms-next, arms-done, needs)
+pub ruleset ways = (
+  parted,
+  told,
+  atom-var,
+  atom-fun,
+  stands-passed,
+  stands-kept,
+  passed-arity,
+  kept-loose,
+  atom-room,
+  atom-next,
+  atom-done,
+  call-ready,
+  call-few,
+  call-room,
+  call-done,
+  let-ready,
+  let-room,
+  let-next,
+  let-done,
+  match-ready,
+  match-room,
+  match-next,
+  match-done,
+  build-ready,
+  build-room,
+  build-done,
+  constructor-room,
+  constructor-next,
+  constructor-done,
+  var-room,
+  var-done,
+  function-room,
+  function-next,
+  function-done,
+  link-room,
+  link-next,
+  link-done,
+  handed-room,
+  handed-next,
+  handed-left,
+  handed-done,
+  chain-none,
+  keeps-none,
+  arms-none,
+  chain-ready,
+  keeps-ready,
+  arm-inside,
+  arm-room,
+  chain-next,
+  keeps-next,
+  chain-done,
+  keeps-done,
+  arm-next,
+  arms-next,
+  arms-done,
+  needs,
+)

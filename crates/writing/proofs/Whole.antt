@@ -1,28 +1,28 @@
 -- The image of a rule, in the steps in which it is written: one law for each call in `write_image`, and for its way out.
 -- Assumes nothing.
-use Prim.Native.Nat.{ℕ, _+_, _≤_}
+use Prim.Native.Nat.{ℕ, _+_}
 use mathlib.Core.Path.{_≡_, refl, sym, ap, subst, _∙_}
 use mathlib.Core.List.{List, [], _∷_, _++_}
 use native.Mathlib.Nat.{zero-add}
 use native.Mathlib.Omega.{arith}
 use borrow.Author.Needs.{needs}
 use lib.ListN.{length, drop}
-use lib.Seq.{sets, sets-eq}
-use Rattle.language.specs.Term.{rules, images, Term}
+use Rattle.language.specs.Term.{images, Term}
 use Rattle.language.specs.Words.{head, words}
 use Rattle.language.specs.Image.{image}
 use Rattle.language.specs.Limits.{deepest}
 use Rattle.language.specs.Places.{Held}
 use Rattle.language.proofs.Places.{whole}
+use Rattle.language.proofs.Stores.{at-front}
 use Rattle.atoms.specs.Standing.{term, Seen}
-use Rattle.writing.specs.Jobs.{Room, Put, Job, passed, before, after, target, Ready, Done}
+use Rattle.runs.specs.Runs.{Room, Put}
+use Rattle.writing.specs.Jobs.{Job, passed, before, after, target, Ready, Done}
 use Rattle.writing.specs.Written.{Writable, SomeWritable, ImageWritten}
-use Rattle.writing.proofs.Puts.{put-then, room-first, room-after}
 use Rattle.writing.proofs.Jobs.{before-room, before-ready, before-done, after-ready, after-room, after-done}
 
 -- "The image of a rule is 0401, its passing form, 0201 0900."
 abbrev imaged : Job
-imaged = before (0x0401 ∷ []) (after (passed deepest) ((0x0201 ∷ []) ++ (head 9 0 ∷ [])))
+imaged = before (0x0401 ∷ []) (after (passed deepest) (0x0201 ∷ head 9 0 ∷ []))
 
 image-words : (t : Term) → words images (image t) ≡ target imaged t
 unfolding words image
@@ -52,28 +52,23 @@ module _ {o s : List ℕ} where
     fronted = record {
       count = λ t W. put W .next ∙ zero-add _ ∙ ap length (sym (image-words t));
       output = λ t W.
-          put W .holds ∙ sets-eq (target imaged t) o 0 (omega (arith, W .room, ap length (image-words t)))
-          ∙ ap (λ (k : ℕ). target imaged t ++ drop k o) (zero-add (length (target imaged t))) ∙ ap (λ (l : List ℕ). l ++ drop (length l) o) (sym (image-words t));
+          put W .holds ∙ at-front o (target imaged t) (omega (arith, W .room, ap length (image-words t)))
+          ∙ ap (λ (l : List ℕ). l ++ drop (length l) o) (sym (image-words t));
     }
 
-  pub image-room : SomeWritable o s → Room o 0 (0x0401 ∷ [])
+  pub image-room : SomeWritable o s → Room o 0 1
   image-room W = before-room (ready W)
 
   module _ {o′ : List ℕ} {i : ℕ} where
     pub image-next : SomeWritable o s → Put (0x0401 ∷ []) o 0 o′ i → Ready (passed deepest) o′ i s 0
-    image-next W f = after-ready (before-ready (ready W) f)
+    image-next W f = after-ready (before-ready (ready W) f refl)
 
     module _ {o″ : List ℕ} {to j : ℕ} where
-      pub image-left : SomeWritable o s → Put (0x0401 ∷ []) o 0 o′ i → Done (passed deepest) o′ i s 0 o″ to j → Room o″ j (0x0201 ∷ [])
-      image-left W f D = room-first (0x0201 ∷ []) (head 9 0 ∷ []) (after-room (before-ready (ready W) f) D)
+      pub image-left : SomeWritable o s → Put (0x0401 ∷ []) o 0 o′ i → Done (passed deepest) o′ i s 0 o″ to j → Room o″ j 2
+      image-left W f D = after-room (before-ready (ready W) f refl) D
 
-      module _ {o‴ : List ℕ} {l : ℕ} where
-        pub image-last : SomeWritable o s → Put (0x0401 ∷ []) o 0 o′ i → Done (passed deepest) o′ i s 0 o″ to j → Put (0x0201 ∷ []) o″ j o‴ l
-            → Room o‴ l (head 9 0 ∷ [])
-        image-last W f D g = room-after (after-room (before-ready (ready W) f) D) g
+      pub image-done : {o‴ : List ℕ} {end : ℕ} → Put (0x0401 ∷ []) o 0 o′ i → Done (passed deepest) o′ i s 0 o″ to j
+          → Put (0x0201 ∷ head 9 0 ∷ []) o″ j o‴ end → ImageWritten o s o‴ end
+      image-done f D g = fronted (before-done f (after-done D g))
 
-        pub image-done : {o⁗ : List ℕ} {end : ℕ} → Put (0x0401 ∷ []) o 0 o′ i → Done (passed deepest) o′ i s 0 o″ to j → Put (0x0201 ∷ []) o″ j o‴ l
-            → Put (head 9 0 ∷ []) o‴ l o⁗ end → ImageWritten o s o⁗ end
-        image-done f D g h = fronted (before-done f (after-done D (put-then g h)))
-
-pub ruleset ways = (image-room, image-next, image-left, image-last, image-done, needs)
+pub ruleset ways = (image-room, image-next, image-left, image-done, needs)

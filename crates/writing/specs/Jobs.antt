@@ -1,22 +1,12 @@
--- What the contracts of the writers are made of: room for words, words written, and jobs, which are what a writer reads and what it writes of it.
-use Prim.Native.Nat.{ℕ, _+_, _≤_}
-use mathlib.Core.Path.{_≡_}
+-- What the contracts of the writers of forms are made of: jobs, each of which is what a writer reads, and what it writes of it.
+use Prim.Native.Nat.{ℕ}
 use mathlib.Core.List.{List, [], _∷_, _++_}
 use lib.ListN.{length}
-use lib.Seq.{sets}
-use Rattle.language.specs.Term.{images, Term, Terms, nil, cons}
-use Rattle.language.specs.Words.{head, words, wordsᵗ, wordsᵃ}
+use Rattle.language.specs.Term.{images, Terms, nil, cons}
+use Rattle.language.specs.Words.{words, wordsᵗ, wordsᵃ}
 use Rattle.language.specs.Image.{passing, carried, carrieds, passingᵃ}
+use Rattle.runs.specs.Runs.{Room, Put}
 use Rattle.atoms.specs.Standing.{Part, term, terms, arms, atomic, atomics, over, _then_, Thing, Seen, Ends}
-
--- there is room for the words ws in o from the place p on
-pub record Room (o : List ℕ) (p : ℕ) (ws : List ℕ) : Type 0 where
-  pub fits : p + length ws ≤ length o
-
--- the words ws were written into o from the place p on, and nothing else was; o′ is what it then holds, and `end` the place after them
-pub record Put (ws : List ℕ) (o : List ℕ) (p : ℕ) (o′ : List ℕ) (end : ℕ) : Type 0 where
-  pub next : end ≡ p + length ws
-  pub holds : o′ ≡ sets o p ws
 
 -- "for each of its terms in order, 0201 0401 and the term's passing form"
 unfoldable pub links : Terms → List ℕ
@@ -74,7 +64,7 @@ pub record Ready (J : Job) (o : List ℕ) (p : ℕ) (s : List ℕ) (at : ℕ) : 
   pub thing : Thing (reads J)
   pub to : ℕ
   pub seen : Seen (reads J) s at to thing
-  pub room : Room o p (target J thing)
+  pub room : Room o p (length (target J thing))
 
 -- whatever J reads and stands in s at `at`, it was read up to `to`, and what is to be written of it was written into o from p up to `end`
 pub record Done (J : Job) (o : List ℕ) (p : ℕ) (s : List ℕ) (at : ℕ) (o′ : List ℕ) (to end : ℕ) : Type 0 where

@@ -1,3 +1,5 @@
+-- `atoms::atom_at` and `atoms_at` meet their contracts. The levels left fall with each constructor, and the number of terms with each that is passed.
+-- Assumes nothing.
 use Prim.Native.Nat.{ℕ, _<_}
 use borrow.Fn.Kinds.{In}
 use borrow.Fn.PlainCycle.{Measures, is, falls, and}

@@ -1,3 +1,6 @@
+-- `atoms::skip`, `skip_terms` and `skip_arms` meet their contracts. The levels left fall with each part, and the number of terms or arms with each
+-- that is passed.
+-- Assumes nothing.
 use Prim.Native.Nat.{ℕ, _<_}
 use borrow.Fn.Kinds.{In}
 use borrow.Fn.PlainCycle.{Measures, is, falls, and}

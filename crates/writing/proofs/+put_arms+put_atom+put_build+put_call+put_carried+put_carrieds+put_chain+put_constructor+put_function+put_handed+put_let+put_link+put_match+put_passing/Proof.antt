@@ -1,3 +1,6 @@
+-- The writers of forms, of lists and of arms meet their contracts. The levels left fall from a term to its parts, and the number of terms or arms
+-- with each that is written; among the writers of one term each calls those below it alone.
+-- Assumes nothing.
 use Prim.Native.Nat.{ℕ, _<_}
 use borrow.Fn.Kinds.{In}
 use borrow.Fn.PlainCycle.{Measures, is, falls, and}
@@ -46,14 +49,14 @@ use Rattle.writing.proofs.+put_arms+put_atom+put_build+put_call+put_car
 use Rattle.atoms.proofs.count_at.Reads as count-at-reads
 use Rattle.atoms.proofs.is_atom.Reads as is-atom-reads
 use Rattle.atoms.proofs.parts_at.Reads as parts-at-reads
-use Rattle.writing.proofs.put1.Reads as put1-reads
-use Rattle.writing.proofs.put2.Reads as put2-reads
-use Rattle.writing.proofs.put_added.Reads as put-added-reads
-use Rattle.writing.proofs.put_calling.Reads as put-calling-reads
-use Rattle.writing.proofs.put_continuation.Reads as put-continuation-reads
-use Rattle.writing.proofs.put_copied.Reads as put-copied-reads
-use Rattle.writing.proofs.put_making.Reads as put-making-reads
-use Rattle.writing.proofs.put_source.Reads as put-source-reads
+use Rattle.runs.proofs.put1.Reads as put1-reads
+use Rattle.runs.proofs.put2.Reads as put2-reads
+use Rattle.runs.proofs.put_added.Reads as put-added-reads
+use Rattle.runs.proofs.put_calling.Reads as put-calling-reads
+use Rattle.runs.proofs.put_continuation.Reads as put-continuation-reads
+use Rattle.runs.proofs.put_copied.Reads as put-copied-reads
+use Rattle.runs.proofs.put_making.Reads as put-making-reads
+use Rattle.runs.proofs.put_source.Reads as put-source-reads
 use Rattle.writing.proofs.+put_arms+put_atom+put_build+put_call+put_carried+put_carrieds+put_chain+put_constructor+put_function+put_handed+put_let+put_link+put_match+put_passing.{statement}
 use Rattle.writing.proofs.+put_arms+put_atom+put_build+put_call+put_carried+put_carrieds+put_chain+put_constructor+put_function+put_handed+put_let+put_link+put_match+put_passing.Tie.{close}
 use Prim.Native.Nat.{_+_, _*_}

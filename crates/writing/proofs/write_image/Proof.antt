@@ -8,5 +8,4 @@ pub write-image-spec : {M : Type 1} → statement M
 write-image-spec =
     tie.close
     (tie.spec
-    (λ c κs. search ways) (λ c κs. search ways) (λ c κs. search ways) (λ c κs. search ways) (λ c. search ways)
-    (λ c. search ways))
+    (λ c κs. search ways) (λ c κs. search ways) (λ c κs. search ways) (λ c. search ways) (λ c. search ways))

@@ -1,13 +1,15 @@
+-- `runs::put_down` meets its contract: the number of variables falls.
+-- Assumes nothing.
 use Prim.Native.Nat.{ℕ, _<_}
 use borrow.Fn.Kinds.{In}
 use borrow.Fn.PlainCycle.{Measures, is, falls, and}
-use Rattle.writing.proofs.put_down.Reads as put-down
-use Rattle.writing.proofs.put_down.Kinds as put-down-kinds
-use Rattle.writing.proofs.+put_down.Lts-put_down as put-down-lts
-use Rattle.writing.proofs.put_continuation.Reads as put-continuation-reads
-use Rattle.writing.proofs.+put_down.{statement}
-use Rattle.writing.proofs.+put_down.Tie.{close}
-use Rattle.writing.proofs.Puts.{runs}
+use Rattle.runs.proofs.put_down.Reads as put-down
+use Rattle.runs.proofs.put_down.Kinds as put-down-kinds
+use Rattle.runs.proofs.+put_down.Lts-put_down as put-down-lts
+use Rattle.runs.proofs.put_continuation.Reads as put-continuation-reads
+use Rattle.runs.proofs.+put_down.{statement}
+use Rattle.runs.proofs.+put_down.Tie.{close}
+use Rattle.runs.proofs.Runs.{runs}
 
 abbrev μ-put-down : Measures 1 put-down-kinds.ps ℕ
 μ-put-down κs a = a .1 .1 .0
