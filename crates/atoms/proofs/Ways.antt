@@ -13,7 +13,7 @@ use Rattle.language.specs.declared.Parts.the-variants.{Nothing, Body, FunctionA
 use Rattle.language.specs.declared.Row.{Row}
 use Rattle.language.specs.declared.Head.{Head}
 use Rattle.language.specs.declared.Head.the-variants.{Refused, Opens}
-use Rattle.atoms.specs.Standing.{term, terms, arms, over, _then_, Stands, Ends, Parted, Counted}
+use Rattle.atoms.specs.Standing.{term, terms, arms, over, Stands, Ends, Parted, Counted}
 use Rattle.atoms.proofs.Standing.{ends-over, ends-then, ends-as, stands-as, stands-first, stands-second, as-var, as-fun, as-call, as-bind, as-con, as-cases, as-nil, as-cons, as-none, as-arm, as-arity, term-inside, term-deep, count-there}
 use Rattle.atoms.proofs.Opened.{opened, not-refused}
 

@@ -10,10 +10,10 @@ use lib.ListN.{length, take, drop, length-append, length-drop}
 use lib.Seq.{length-take-le}
 use borrow.Author.Tests.{lt-ltb, le-ltb, ltb-false}
 use Rattle.language.specs.Read.{Reading, accepted, refused, read}
-use Rattle.language.specs.Calls.{Reply, success, refusal, Outcome, replyOf, told, filled, written}
+use Rattle.language.specs.Calls.{success, Outcome, replyOf, told, filled, written}
 use Rattle.language.specs.declared.Answer.{Answer}
 use Rattle.language.specs.declared.Answer.the-variants.{Count, Refusal}
-use Rattle.files.specs.Files.{most, version, headerBytes, wordAt, wordsAt, marked, refuses, unpacking}
+use Rattle.files.specs.Files.{most, version, headerBytes, wordAt, marked, refuses, unpacking}
 use Rattle.files.specs.declared.Form.{Form}
 use Rattle.files.specs.declared.Form.the-variants.{Rules}
 use Rattle.bench.specs.Bench.{mostBytes, zeros, onward, translated, Within, counting, refusing, Translates, Counts}

@@ -1,24 +1,21 @@
 -- Packing then unpacking gives the words back, and each accepted file is the packing of its words. What a call that succeeded went through is read
 -- off its definition, test by test; the words of a file's bytes and the bytes of its words undo each other.
 -- Assumes nothing.
-use Prim.Native.Nat.{ℕ, zero, suc, _+_, _*_, _/_, _%_, _<_, _≤_, _^_}
-use mathlib.Core.Path.{_≡_, refl, sym, ap, ap₂, _∙_, subst}
+use Prim.Native.Nat.{ℕ, zero, suc, _+_, _*_, _/_, _%_, _≤_}
+use mathlib.Core.Path.{_≡_, refl, sym, ap, ap₂, _∙_}
 use mathlib.Core.Bool.{Bool, true, false, cond, not, _&&_, and-eq-true-iff}
 use mathlib.Core.List.{List, [], _∷_, _++_}
 use native.Mathlib.Omega.{arith}
 use lib.Dec.{ltb, eqb}
 use lib.ListN.{length, getD, drop}
 use lib.Seq.{getD-append-add}
-use borrow.Author.Tests.{lt-ltb, le-ltb, eq-eqb, ne-eqb, eqb-true, eqb-false, ltb-false, not-true}
-use Rattle.language.specs.Calls.{Outcome, Reply, success, refusal, filled}
+use borrow.Author.Tests.{le-ltb, eq-eqb, ne-eqb, eqb-true, eqb-false, ltb-false}
+use Rattle.language.specs.Calls.{Outcome, success, filled}
+use Rattle.language.proofs.Clash.{never}
 use Rattle.files.specs.Files.{markL, markR, third, most, version, headerBytes, header, bytesOf, packed, wordAt, wordsAt, refuses, marked, packing, unpacking}
 use Rattle.files.specs.Promises.{Bytes, PackedUnpacks, AcceptedArePacked}
 use Rattle.files.specs.declared.Form.{Form}
-use Rattle.files.specs.declared.Form.the-variants.{Rules, Images}
 use Rattle.files.proofs.Calls.{packed-length, wordsAt-length}
-
-never : {C : Type 0} → _≡_ {A = ℕ} 0 1 → C
-never z = absurd (omega arith)
 
 -- a test that a call which succeeded passed: it held, or it did not
 module _ (b : Bool) (x : Outcome ℕ) (e : ℕ) (out : List ℕ) {n : ℕ} where

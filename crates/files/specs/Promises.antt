@@ -3,8 +3,8 @@ use Prim.Native.Nat.{ℕ, _≤_, _<_, _^_}
 use mathlib.Core.Path.{_≡_}
 use mathlib.Core.List.{List, _++_}
 use lib.ListN.{length, getD, drop}
-use Rattle.language.specs.Calls.{Outcome, success}
-use Rattle.files.specs.Files.{most, packed, packing, unpacking}
+use Rattle.language.specs.Calls.{success}
+use Rattle.files.specs.Files.{packed, packing, unpacking}
 use Rattle.files.specs.declared.Form.{Form}
 
 -- the numbers of a list are bytes

@@ -1,8 +1,7 @@
 -- The ways out of a head's tests, in the words of the code: one law for each.
 -- Assumes nothing.
 use Prim.Native.Nat.{ℕ, _%_, _<_, _≤_}
-use mathlib.Core.Path.{_≡_, refl, sym, ap, _∙_}
-use lib.Dec.{ltb, eqb}
+use mathlib.Core.Path.{_≡_, ap, _∙_}
 use borrow.Author.Tests.{lt-ltb, le-ltb, eq-eqb, ne-eqb}
 use Rattle.language.specs.Kinds.{tested, rowOf, headOf}
 use Rattle.language.specs.declared.Row.{Row}

@@ -1,3 +1,4 @@
+pub mod Clash
 pub mod Heads
 pub mod Forms
 pub mod Places

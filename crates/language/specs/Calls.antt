@@ -9,7 +9,7 @@ use Rattle.language.specs.declared.Answer.the-variants.{Count, Refusal}
 use Rattle.language.specs.Term.{images}
 use Rattle.language.specs.Words.{words}
 use Rattle.language.specs.Image.{image}
-use Rattle.language.specs.Read.{Reading, accepted, refused, read}
+use Rattle.language.specs.Read.{Reading, accepted, refused}
 
 -- "A refusal gives its number alone"
 pub data Reply (A : Type 0) : Type 0 where

@@ -3,7 +3,7 @@
 use Prim.Native.Nat.{ℕ, zero, suc, _+_}
 use mathlib.Core.Bool.{Bool, true, false, _&&_}
 use mathlib.Core.Path.{_≡_}
-use Rattle.language.specs.Term.{Lang, rules, images, Term, Terms, Arms, var, kvar, fun, call, bind, con, cases, nil, cons, none, arm, size}
+use Rattle.language.specs.Term.{Lang, rules, images, Term, Terms, Arms, var, kvar, fun, call, bind, con, cases, nil, cons, arm, size}
 use Rattle.language.specs.Sub.{sub}
 
 -- "An atom is a variable, a function, a recursive function, or a constructor whose arguments are all atoms."

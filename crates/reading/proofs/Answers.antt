@@ -28,7 +28,7 @@ use Rattle.reading.specs.declared.Checked.{Checked}
 use Rattle.reading.specs.declared.Checked.the-variants as check
 use Rattle.language.specs.declared.Answer.{Answer}
 use Rattle.language.specs.declared.Answer.the-variants as answer
-use Rattle.reading.proofs.Steps.{never}
+use Rattle.language.proofs.Clash.{never}
 use Rattle.reading.proofs.Sums.{term-small}
 
 -- the tests of lengths, before the term

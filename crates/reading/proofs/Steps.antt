@@ -9,15 +9,13 @@ use native.Mathlib.Omega.{arith}
 use Rattle.language.specs.Term.{Term, Terms, con, cons, size}
 use Rattle.language.specs.Run.{atom, atoms}
 use Rattle.language.specs.Read.{Got, found, fault, then, made, many, term}
+use Rattle.language.proofs.Clash.{never}
 use Rattle.sizes.specs.Lengths.{passingLength, passingLengths}
 use Rattle.sizes.proofs.Lengths.{by-test, of-con, of-con-unfinished}
 use Rattle.trust.proofs.Accepted.{Holds, held, left, Goodᵗ, many-good, term-good}
 use Rattle.reading.specs.Steps.{constructorWords, savedWords, chainLength, stepOf, termStep, termsStep, grownOf, joinedOf, builtOf}
 use Rattle.reading.specs.declared.Step.{Step}
 use Rattle.reading.specs.declared.Step.the-variants.{Next, No}
-
-pub never : {C : Type 0} → _≡_ {A = ℕ} 0 1 → C
-never z = absurd (omega arith)
 
 -- a step for what a reading comes to is a step for the reading
 pub came : {A : Type 0} (α : A → Bool) (π : A → ℕ) {g h : Got A} {x : Step} → g ≡ h → x ≡ stepOf α π h → x ≡ stepOf α π g

@@ -31,7 +31,8 @@ use Rattle.reading.specs.declared.Step.the-variants.{Next, No}
 use Rattle.reading.specs.declared.Count.{Count}
 use Rattle.reading.specs.declared.Count.the-variants.{Is, Not}
 use Rattle.reading.proofs.Sums.{sums}
-use Rattle.reading.proofs.Steps.{never, came, stops, goes, grows, of-cons, of-construct}
+use Rattle.language.proofs.Clash.{never}
+use Rattle.reading.proofs.Steps.{came, stops, goes, grows, of-cons, of-construct}
 
 -- what is put together of steps
 module _ {r : Step} {e p : ℕ} (h : r ≡ No e p) where

@@ -1,34 +1,29 @@
 -- The promises of specs/Promises.antt: an outcome is what the definition says it is, so the definition's cases are the outcome's.
 -- Assumes nothing.
-use Prim.Native.Nat.{ℕ, _+_, _<_, _≤_}
-use mathlib.Core.Path.{_≡_, refl, sym, ap, ap₂, _∙_, subst}
-use mathlib.Core.Bool.{Bool, true, false, cond}
+use Prim.Native.Nat.{ℕ, _<_}
+use mathlib.Core.Path.{_≡_, refl, sym, ap, _∙_, subst}
+use mathlib.Core.Bool.{Bool, true, false}
 use mathlib.Core.List.{List, _++_}
 use native.Mathlib.Omega.{arith}
 use lib.Dec.{ltb}
 use lib.ListN.{length, take, drop}
 use lib.Seq.{take-at}
 use borrow.Author.Tests.{ltb-true, ltb-false}
-use Rattle.language.specs.Term.{rules, images, Term}
+use Rattle.language.specs.Term.{images, Term}
 use Rattle.language.specs.Words.{words}
-use Rattle.language.specs.Limits.{Ranged}
-use Rattle.language.specs.Run.{Run, count}
-use Rattle.language.specs.Image.{image, carried}
+use Rattle.language.specs.Image.{image}
 use Rattle.language.specs.Read.{Reading, accepted, refused, read}
-use Rattle.language.specs.Calls.{Reply, Outcome, success, refusal, replyOf, told, filled, written}
+use Rattle.language.specs.Calls.{Outcome, replyOf, told, filled, written}
 use Rattle.language.specs.declared.Answer.{Answer}
 use Rattle.language.specs.declared.Answer.the-variants.{Count, Refusal}
+use Rattle.language.proofs.Clash.{never}
 use Rattle.trust.proofs.Accepted.{accepted-rule}
 use Rattle.trust.proofs.Ranges.{images-in-range}
 use Rattle.trust.proofs.Unique.{words-determine}
-use Rattle.meaning.specs.Promises.{applications, Comes}
 use Rattle.meaning.proofs.Promises.{demand3-of-words}
 use Rattle.reading.proofs.Answers.{same-checked, same-answer}
-use Rattle.rules.specs.Contracts.{Call, check, measure, write, pack, unpack, Result, Allows}
-use Rattle.rules.specs.Promises.{Determined, Replied, refusing, no-room, writing, Demand1, Written, Demand2, Front, WrittenRuns}
-
-never : {C : Type 0} → _≡_ {A = ℕ} 0 1 → C
-never z = absurd (omega arith)
+use Rattle.rules.specs.Contracts.{check, measure, write, pack, unpack, Allows}
+use Rattle.rules.specs.Promises.{Determined, Replied, refusing, no-room, writing, Demand1, Written, Demand2, WrittenRuns}
 
 -- an answer with an output is determined by what they tell
 same-told : {o : Outcome ℕ} (x y : Answer × List ℕ) → told (x .0) (x .1) ≡ o → told (y .0) (y .1) ≡ o → x ≡ y

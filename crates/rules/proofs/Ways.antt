@@ -1,23 +1,21 @@
 -- The ways out of the writing call, in the words of the code: one law for each.
 -- Assumes nothing.
 use Prim.Native.Nat.{ℕ, _<_, _≤_}
-use mathlib.Core.Path.{_≡_, refl, sym, ap, _∙_}
-use mathlib.Core.List.{List, _++_}
+use mathlib.Core.Path.{_≡_, refl}
+use mathlib.Core.List.{List}
 use native.Mathlib.Omega.{arith}
-use lib.ListN.{length, drop}
+use lib.ListN.{length}
 use borrow.Author.Tests.{lt-ltb, le-ltb}
-use Rattle.language.specs.Term.{rules, images, Term}
+use Rattle.language.specs.Term.{images, Term}
 use Rattle.language.specs.Words.{words}
 use Rattle.language.specs.Image.{image}
 use Rattle.language.specs.Read.{Reading, accepted, refused, read}
-use Rattle.language.specs.Calls.{Reply, success, refusal, replyOf, told, measured, filled, written}
+use Rattle.language.specs.Calls.{replyOf, told, measured, filled, written}
 use Rattle.language.specs.declared.Answer.{Answer}
 use Rattle.language.specs.declared.Answer.the-variants.{Count, Refusal}
+use Rattle.language.proofs.Clash.{never}
 use Rattle.writing.specs.Written.{Writable, SomeWritable, ImageWritten}
 use Rattle.trust.proofs.Accepted.{accepted-are-rules}
-
-never : {C : Type 0} → _≡_ {A = ℕ} 0 1 → C
-never z = absurd (omega arith)
 
 -- what the measuring call's answer says of the reading
 measured-refusal : (g : Reading) {a : Answer} {e : ℕ} → replyOf a ≡ measured g → a ≡ Refusal e → (p : ℕ) × (g ≡ refused e p)

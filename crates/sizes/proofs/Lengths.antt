@@ -1,7 +1,7 @@
 -- The length of each passing form, from the lengths of its parts'. The words are counted form by form; a constructor of atoms is the one form
 -- that is shorter than its parts' passing forms together, by three words for each argument.
 -- Assumes nothing.
-use Prim.Native.Nat.{ℕ, zero, suc, _+_, _*_, _≤_}
+use Prim.Native.Nat.{ℕ, zero, suc, _+_, _*_}
 use mathlib.Core.Path.{_≡_, refl, ap}
 use mathlib.Core.Bool.{Bool, true, false, and-eq-true-iff, false≢true}
 use native.Mathlib.Omega.{arith}
@@ -9,7 +9,7 @@ use lib.ListN.{length, length-append}
 use Rattle.language.specs.Term.{images, Term, Terms, Arms, var, kvar, fun, call, bind, con, cases, nil, cons, none, arm, size}
 use Rattle.language.specs.Words.{words, wordsᵗ}
 use Rattle.language.specs.Run.{atom, atoms}
-use Rattle.language.specs.Image.{passing, carried, carrieds, chain, passingᵃ, downto, calling, making, image}
+use Rattle.language.specs.Image.{passing, carried, carrieds, chain, downto, calling, making, image}
 use Rattle.language.proofs.Forms.{passing-build}
 use Rattle.sizes.specs.Lengths.{passingLength, passingLengths, armLengths, imageLength}
 

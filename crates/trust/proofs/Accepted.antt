@@ -1,30 +1,29 @@
 -- What is accepted is exactly the words of its term, and the term is a rule. By induction on the levels of depth left: whatever the readers
 -- find stands there with its words, names only what is bound, and is in its ranges and its depth.
 -- Assumes nothing.
-use Prim.Native.Nat.{ℕ, zero, suc, _+_, _*_, _/_, _%_, _<_, _≤_}
+use Prim.Native.Nat.{ℕ, zero, suc, _+_, _/_, _%_, _<_, _≤_}
 use mathlib.Core.Path.{_≡_, refl, ap, _∙_, subst}
 use mathlib.Core.Bool.{Bool, true, false, cond}
 use mathlib.Core.List.{List, [], _∷_, _++_, append-nil}
 use native.Mathlib.Omega.{arith}
 use native.Mathlib.Nat.{add-zero}
 use native.Mathlib.Numerals.{add-one}
-use lib.Dec.{ltb, leb, eqb}
-use lib.ListN.{length, getD, drop, length-append, drop-of-length-le}
+use lib.Dec.{ltb, eqb}
+use lib.ListN.{length, getD, drop-of-length-le}
 use borrow.Author.Tests.{ltb-true, ltb-false, leb-true}
-use Rattle.language.specs.Term.{rules, Term, Terms, Arms, var, kvar, fun, call, bind, con, cases, nil, cons, none, arm, size, sizeᵃ}
+use Rattle.language.specs.Term.{rules, Term, Terms, Arms, var, fun, call, bind, con, cases, nil, cons, none, arm, size, sizeᵃ}
 use Rattle.language.specs.Kinds.{mostArguments, mostArms, mostByte, atTerm, atArm, headOf}
 use Rattle.language.specs.Words.{head, words, wordsᵗ, wordsᵃ}
 use Rattle.language.specs.Scope.{Scoped, Scopedᵗ, Scopedᵃ, s-var, s-fun, s-call, s-bind, s-con, s-cases, s-nil, s-cons, s-none, s-arm}
 use Rattle.language.specs.Limits.{deepest, mostWords, Ranged, Rangedᵗ, Rangedᵃ, r-var, r-fun, r-call, r-bind, r-con, r-cases, r-nil, r-cons, r-none, r-arm, depth, depthᵗ, depthᵃ, Rule}
 use Rattle.language.specs.Places.{Held}
-use Rattle.language.specs.Read.{Got, found, fault, then, made, headed, second, many, armsOf, opened, term, Reading, accepted, refused, reading, read}
-use Rattle.language.specs.declared.Parts.{Parts}
+use Rattle.language.specs.Read.{Got, found, fault, then, made, headed, second, many, armsOf, opened, term, accepted, reading, read}
 use Rattle.language.specs.declared.Row.{Row}
 use Rattle.language.specs.declared.Head.{Head}
 use Rattle.language.specs.declared.Head.the-variants.{Refused, Opens}
 use Rattle.language.proofs.Places.{no-words, one-word, join}
 use Rattle.trust.specs.Promises.{AcceptedAreRules}
-use Rattle.trust.proofs.Rows.{Opened, o-var, o-fun, o-rec, o-call, o-let, o-con, o-match, o-arm, Passed, passed}
+use Rattle.trust.proofs.Rows.{Opened, o-var, o-fun, o-rec, o-call, o-let, o-con, o-match, o-arm, passed}
 
 -- `Holds Q g`: whatever the reading g found, Q holds of it and of the place after it
 pub data Holds {A : Type 0} (Q : A → ℕ → Type 0) : Got A → Type 0 where

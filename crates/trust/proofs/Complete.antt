@@ -1,23 +1,21 @@
 -- The words of every rule are accepted, with that term. By induction on the term: where its words stand, under at least its variables' number
 -- and with at least its depth left, the readers find it and the place after it.
 -- Assumes nothing.
-use Prim.Native.Nat.{ℕ, zero, suc, _+_, _-_, _*_, _/_, _%_, _<_, _≤_}
+use Prim.Native.Nat.{ℕ, zero, suc, _+_, _-_, _/_, _%_, _<_, _≤_}
 use mathlib.Core.Path.{_≡_, refl, sym, ap, _∙_}
-use mathlib.Core.Bool.{Bool, true, false, cond}
-use mathlib.Core.List.{List, [], _∷_, _++_}
+use mathlib.Core.List.{List}
 use native.Mathlib.Omega.{arith}
 use native.Mathlib.Numerals.{add-one, sub-one}
-use lib.Dec.{ltb, leb, eqb}
 use lib.ListN.{length, getD}
 use borrow.Author.Tests.{lt-ltb, le-ltb, le-leb, ne-eqb}
 use Rattle.language.specs.Term.{rules, Term, Terms, Arms, var, kvar, fun, call, bind, con, cases, nil, cons, none, arm, size, sizeᵃ}
-use Rattle.language.specs.Kinds.{mostArguments, mostArms, mostByte, atTerm, atArm, row, noRow, kinds, rowOf, headOf}
+use Rattle.language.specs.Kinds.{mostArguments, mostByte, atTerm, atArm, row, noRow, kinds, rowOf, headOf}
 use Rattle.language.specs.Words.{head, words, wordsᵗ, wordsᵃ}
 use Rattle.language.specs.Scope.{Scoped, Scopedᵗ, Scopedᵃ, s-var, s-fun, s-call, s-bind, s-con, s-cases, s-nil, s-cons, s-none, s-arm}
-use Rattle.language.specs.Limits.{deepest, mostWords, Ranged, Rangedᵗ, Rangedᵃ, r-var, r-kvar, r-fun, r-call, r-bind, r-con, r-cases, r-nil, r-cons, r-none, r-arm, depth, depthᵗ, depthᵃ, Rule}
+use Rattle.language.specs.Limits.{deepest, mostWords, Ranged, Rangedᵗ, Rangedᵃ, r-var, r-kvar, r-fun, r-call, r-bind, r-con, r-cases, r-nil, r-cons, r-none, r-arm, depth, depthᵗ, depthᵃ}
 use Rattle.language.specs.Places.{Held}
-use Rattle.language.specs.Read.{Got, found, fault, then, made, headed, second, many, armsOf, opened, term, accepted, read}
-use Rattle.language.specs.declared.Parts.the-variants.{Nothing, Body, FunctionAndArguments, BoundAndBody, CountAndArguments, SubjectAndArms, ArityAndBody}
+use Rattle.language.specs.Read.{Got, found, then, made, second, many, armsOf, opened, term, read}
+use Rattle.language.specs.declared.Parts.the-variants.{Nothing, Body, FunctionAndArguments, BoundAndBody, CountAndArguments, SubjectAndArms}
 use Rattle.language.specs.declared.Row.{Row}
 use Rattle.language.specs.declared.Head.the-variants.{Opens}
 use Rattle.language.proofs.Heads.{opens}

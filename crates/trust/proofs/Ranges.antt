@@ -1,13 +1,13 @@
 -- Every word of a term in its ranges fits 16 bits, and the image of a term in a rule's ranges is in an image's. By induction on the term, form by
 -- form.
 -- Assumes nothing.
-use Prim.Native.Nat.{ℕ, zero, suc, _+_, _*_, _<_, _≤_}
+use Prim.Native.Nat.{ℕ, zero, suc, _+_, _<_, _≤_}
 use mathlib.Core.Path.{_≡_, refl, ap}
 use mathlib.Core.Bool.{Bool, true, false, cond}
 use mathlib.Core.List.{List, [], _∷_, _++_}
 use native.Mathlib.Omega.{arith}
 use lib.ListN.{getD}
-use Rattle.language.specs.Term.{Lang, rules, images, Term, Terms, Arms, var, kvar, fun, call, bind, con, cases, nil, cons, none, arm, size, sizeᵃ}
+use Rattle.language.specs.Term.{Lang, rules, images, Term, Terms, Arms, kvar, con, nil, cons, none, arm, size, sizeᵃ}
 use Rattle.language.specs.Kinds.{mostArguments}
 use Rattle.language.specs.Words.{head, added, words, wordsᵗ, wordsᵃ}
 use Rattle.language.specs.Limits.{Ranged, Rangedᵗ, Rangedᵃ, r-var, r-kvar, r-fun, r-call, r-bind, r-con, r-cases, r-nil, r-cons, r-none, r-arm}

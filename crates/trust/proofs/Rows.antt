@@ -1,19 +1,18 @@
 -- What a head word opens, kind by kind. The table has ten rows; `Opened` names those that may stand somewhere, each with its kind, so that a proof
 -- that goes by cases on it sees the row's columns.
 -- Assumes nothing.
-use Prim.Native.Nat.{ℕ, zero, suc, _+_, _*_, _/_, _%_, _<_, _≤_}
+use Prim.Native.Nat.{ℕ, zero, suc, _/_, _%_, _<_, _≤_}
 use mathlib.Core.Path.{_≡_, refl, subst}
 use mathlib.Core.Bool.{Bool, true, false, cond}
 use native.Mathlib.Omega.{arith}
 use lib.Dec.{ltb, eqb}
 use lib.ListN.{getD}
 use borrow.Author.Tests.{eqb-true, ltb-false}
-use Rattle.language.specs.Kinds.{mostArguments, mostArms, mostByte, atTerm, atArm, row, noRow, kinds, rowOf, tested, headOf}
-use Rattle.language.specs.Words.{head}
+use Rattle.language.specs.Kinds.{mostArguments, mostArms, mostByte, atTerm, atArm, row, noRow, kinds, rowOf, headOf}
 use Rattle.language.specs.declared.Parts.the-variants.{Nothing, Body, FunctionAndArguments, BoundAndBody, CountAndArguments, SubjectAndArms, ArityAndBody}
 use Rattle.language.specs.declared.Row.{Row}
-use Rattle.language.specs.declared.Head.{Head}
 use Rattle.language.specs.declared.Head.the-variants.{Refused, Opens}
+use Rattle.language.proofs.Clash.{never}
 
 -- the kinds that may stand somewhere in a rule, with their rows
 pub data Opened : ℕ → Row → Type 0 where
@@ -45,9 +44,6 @@ pub record Passed (w q : ℕ) (r : Row) : Type 0 where
   pub stands : r .stands ≡ q
   pub low : r .low ≤ w % 256
   pub high : w % 256 ≤ r .high
-
-never : {C : Type 0} → _≡_ {A = ℕ} 0 1 → C
-never z = absurd (omega arith)
 
 by-tests : (x y z : Bool) (r r' : Row) → cond x (cond y (Refused 5) (cond z (Refused 5) (Opens r))) (Refused 4) ≡ Opens r'
     → (x ≡ true) × (y ≡ false) × (z ≡ false) × (r ≡ r')

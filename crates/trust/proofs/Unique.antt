@@ -1,12 +1,12 @@
 -- The words of a term determine it, in either language. A reader of words that tests nothing (`back`) gives every term in its ranges back from
 -- its words; so two such terms with the same words are one.
 -- Assumes nothing.
-use Prim.Native.Nat.{ℕ, zero, suc, _+_, _-_, _*_, _/_, _%_, _≤_, max}
+use Prim.Native.Nat.{ℕ, zero, suc, _+_, _-_, _/_, _%_, _≤_, max}
 use mathlib.Core.Path.{_≡_, refl, sym, ap, _∙_}
 use mathlib.Core.List.{List, [], _∷_, _++_, append-assoc}
 use native.Mathlib.Omega.{arith}
 use lib.ListN.{getD}
-use Rattle.language.specs.Term.{Lang, rules, images, Term, Terms, Arms, var, kvar, fun, call, bind, con, cases, nil, cons, none, arm, size, sizeᵃ}
+use Rattle.language.specs.Term.{Lang, Term, Terms, Arms, var, kvar, fun, call, bind, con, cases, nil, cons, none, arm, size, sizeᵃ}
 use Rattle.language.specs.Kinds.{mostByte}
 use Rattle.language.specs.Words.{head, added, words, wordsᵗ, wordsᵃ}
 use Rattle.language.specs.Limits.{Ranged, Rangedᵗ, Rangedᵃ, r-var, r-kvar, r-fun, r-call, r-bind, r-con, r-cases, r-nil, r-cons, r-none, r-arm, depth, depthᵗ, depthᵃ}

@@ -1,6 +1,5 @@
 -- `files::unpack` meets its contract: each way out is one of the definition's. Assumes nothing.
 use borrow.Author.Needs.{needs}
-use native.Mathlib.Omega.{arith}
 use Rattle.files.proofs.Calls.{ways}
 use Rattle.files.proofs.unpack.Statement.{statement}
 use Rattle.files.proofs.unpack.Tie as tie
