@@ -1,12 +1,12 @@
 -- The passing form of an atom, and of a constructor that is none: document 01's two cases for a constructor, each as an equation. The carried
--- forms of a list are as many as its terms.
+-- forms of a list are as many as its terms, and the arms of a match stay as many.
 -- Assumes nothing.
 use Prim.Native.Nat.{ℕ, suc}
 use mathlib.Core.Path.{_≡_, refl, ap}
 use mathlib.Core.Bool.{true, false, false≢true}
-use Rattle.language.specs.Term.{Term, Terms, var, kvar, fun, call, bind, con, cases, nil, cons, size}
+use Rattle.language.specs.Term.{Term, Terms, Arms, var, kvar, fun, call, bind, con, cases, nil, cons, none, arm, size, sizeᵃ}
 use Rattle.language.specs.Run.{atom, atoms}
-use Rattle.language.specs.Image.{lam, to, making, passing, carried, carrieds, chain}
+use Rattle.language.specs.Image.{lam, to, making, passing, carried, carrieds, chain, passingᵃ}
 
 -- "Atom: 0201 0401 0900, then its carried form."
 pub passing-atom : (t : Term) → atom t ≡ true → passing t ≡ lam (to (kvar 0) (carried t))
@@ -29,3 +29,9 @@ pub size-carrieds : (ts : Terms) → size (carrieds ts) ≡ size ts
 unfolding size carrieds
 size-carrieds nil = refl
 size-carrieds (cons t ts) = ap suc (size-carrieds ts)
+
+-- a match's passing form has as many arms
+pub size-passingᵃ : (ps : Arms) → sizeᵃ (passingᵃ ps) ≡ sizeᵃ ps
+unfolding passingᵃ sizeᵃ
+size-passingᵃ none = refl
+size-passingᵃ (arm t n b ps) = ap suc (size-passingᵃ ps)

@@ -7,13 +7,13 @@ use mathlib.Core.Bool.{Bool, true, false, cond}
 use mathlib.Core.List.{List, [], _∷_, _++_}
 use native.Mathlib.Omega.{arith}
 use lib.ListN.{getD}
-use Rattle.language.specs.Term.{Lang, rules, images, Term, Terms, Arms, kvar, con, nil, cons, none, arm, size, sizeᵃ}
+use Rattle.language.specs.Term.{Lang, rules, images, Term, Terms, Arms, kvar, con, nil, cons, size, sizeᵃ}
 use Rattle.language.specs.Kinds.{mostArguments}
 use Rattle.language.specs.Words.{head, added, words, wordsᵗ, wordsᵃ}
 use Rattle.language.specs.Limits.{Ranged, Rangedᵗ, Rangedᵃ, r-var, r-kvar, r-fun, r-call, r-bind, r-con, r-cases, r-nil, r-cons, r-none, r-arm}
 use Rattle.language.specs.Run.{atoms}
 use Rattle.language.specs.Image.{lam, to, downto, calling, making, passing, carried, carrieds, chain, passingᵃ, image}
-use Rattle.language.proofs.Forms.{size-carrieds}
+use Rattle.language.proofs.Forms.{size-carrieds, size-passingᵃ}
 use Rattle.trust.specs.Promises.{wordEnd, Fit, WordsFit, ImagesInRange}
 
 fit-nil : Fit []
@@ -92,11 +92,6 @@ making-ranged t n h l = to-ranged (k-ranged n (omega arith)) (r-con {ps = downto
 cond-ranged : (b : Bool) {x y : Term} → Ranged images x → Ranged images y → Ranged images (cond b x y)
 cond-ranged true h k = h
 cond-ranged false h k = k
-
-size-passingᵃ : (ps : Arms) → sizeᵃ (passingᵃ ps) ≡ sizeᵃ ps
-unfolding passing sizeᵃ
-size-passingᵃ none = refl
-size-passingᵃ (arm t n b ps) = ap suc (size-passingᵃ ps)
 
 -- what fills the place of the carried form that a term which is no atom has not
 filler-ranged : Ranged images (con 0 nil)

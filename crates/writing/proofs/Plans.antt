@@ -1,20 +1,20 @@
 -- How each form is written, step by step: the plan of each writer. What is read is taken apart as those who skip do it; that the steps write the
 -- form's words is an equation of words for each form.
 -- Assumes nothing.
-use Prim.Native.Nat.{ℕ, suc, _+_, _-_, _%_}
+use Prim.Native.Nat.{ℕ, _+_, _-_, _%_}
 use mathlib.Core.Path.{_≡_, refl, sym, ap, _∙_}
 use mathlib.Core.Bool.{true, false, false≢true, and-eq-true-iff}
 use mathlib.Core.List.{List, [], _∷_, _++_, append-assoc, append-nil}
 use native.Mathlib.Omega.{arith}
 use lib.ListN.{getD}
-use Rattle.language.specs.Term.{rules, images, Term, Terms, Arms, fun, call, bind, con, cases, nil, cons, none, arm, size, sizeᵃ}
+use Rattle.language.specs.Term.{rules, images, Term, Terms, Arms, fun, call, bind, con, cases, nil, cons, size, sizeᵃ}
 use Rattle.language.specs.Words.{head, words, wordsᵗ, wordsᵃ}
 use Rattle.language.specs.Run.{atom, atoms}
 use Rattle.language.specs.Image.{passing, carried, carrieds, chain, passingᵃ, calling, making}
 use Rattle.language.specs.Limits.{Rangedᵗ, Rangedᵃ, r-nil, r-cons, r-none, r-arm}
 use Rattle.language.specs.declared.Parts.{Parts}
 use Rattle.language.specs.declared.Parts.the-variants.{Nothing, Body, FunctionAndArguments, BoundAndBody, CountAndArguments, SubjectAndArms, ArityAndBody}
-use Rattle.language.proofs.Forms.{passing-atom, passing-build, size-carrieds}
+use Rattle.language.proofs.Forms.{passing-atom, passing-build, size-carrieds, size-passingᵃ}
 use Rattle.language.proofs.Places.{first-word, next-words}
 use Rattle.atoms.specs.Standing.{term, terms, arms, atomic, atomics, Seen, AtomAt, Parted}
 use Rattle.atoms.proofs.Opened.{Opened, o-var, o-fun, o-call, o-bind, o-con, o-cases, opened}
@@ -28,11 +28,6 @@ words-chain : (ts : Terms) (e : Term) → 0x0201 ∷ words images (chain ts e) �
 unfolding words passing links
 words-chain nil e = refl
 words-chain (cons t ts) e = simp (append-nil, words-chain ts e, append-assoc)
-
-size-arms : (ps : Arms) → sizeᵃ (passingᵃ ps) ≡ sizeᵃ ps
-unfolding sizeᵃ passingᵃ
-size-arms none = refl
-size-arms (arm t n b ps) = ap suc (size-arms ps)
 
 -- the words of the other passing forms and of the carried forms, in the runs in which they are written
 atom-words : (t : Term) → atom t ≡ true → words images (passing t) ≡ (0x0201 ∷ 0x0401 ∷ head 9 0 ∷ []) ++ words images (carried t)
@@ -64,7 +59,7 @@ cases-words : (m : Term) (ps : Arms) {w : ℕ} → w ≡ head 7 (sizeᵃ ps) →
 unfolding words passing
 cases-words m ps e = ap (λ (l : List ℕ). 0x0201 ∷ 0x0401 ∷ (words images (passing m) ++ l))
     (append-nil (0x0201 ∷ head 7 (sizeᵃ (passingᵃ ps)) ∷ head 9 0 ∷ wordsᵃ images (passingᵃ ps))
-    ∙ ap (λ (w : ℕ). 0x0201 ∷ w ∷ head 9 0 ∷ wordsᵃ images (passingᵃ ps)) (ap (head 7) (size-arms ps) ∙ sym e))
+    ∙ ap (λ (w : ℕ). 0x0201 ∷ w ∷ head 9 0 ∷ wordsᵃ images (passingᵃ ps)) (ap (head 7) (size-passingᵃ ps) ∙ sym e))
 
 fun-words : (o a : ℕ) (b : Term) {w : ℕ} → w ≡ head (2 + o) (a + 0)
     → words images (carried (fun o a b)) ≡ ((w + 1) ∷ []) ++ (0x0401 ∷ (words images (passing b) ++ (head 9 0 ∷ [])))
