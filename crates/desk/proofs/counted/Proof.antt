@@ -1,8 +1,8 @@
--- `bench::counted` meets its contract. Assumes nothing.
+-- `desk::counted` meets its contract. Assumes nothing.
 use borrow.Author.Needs.{needs}
-use Rattle.bench.proofs.Ways.{ways}
-use Rattle.bench.proofs.counted.Statement.{statement}
-use Rattle.bench.proofs.counted.Tie as tie
+use Rattle.desk.proofs.Ways.{ways}
+use Rattle.desk.proofs.counted.Statement.{statement}
+use Rattle.desk.proofs.counted.Tie as tie
 
 enum-told : tie.Need-enum-told
 enum-told c = search needs

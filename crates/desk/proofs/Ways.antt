@@ -1,4 +1,4 @@
--- The ways out of translating a file, and why what is counted lies within the buffers: no call counts more than its output holds.
+-- The ways out of translating a file and of answering, and why what is counted lies within the buffers: no call counts more than its output holds.
 -- Assumes nothing.
 use Prim.Native.Nat.{ℕ, _+_, _*_, _<_, _≤_}
 use mathlib.Core.Path.{_≡_, refl, sym, ap, _∙_, subst}
@@ -10,13 +10,14 @@ use lib.ListN.{length, take, drop, length-append, length-drop}
 use lib.Seq.{length-take-le}
 use borrow.Author.Tests.{lt-ltb, le-ltb, ltb-false}
 use Rattle.language.specs.Read.{Reading, accepted, refused, read}
-use Rattle.language.specs.Calls.{success, Outcome, replyOf, told, filled, written}
+use Rattle.language.specs.Calls.{Reply, success, refusal, Outcome, replyOf, told, filled, written}
 use Rattle.language.specs.declared.Answer.{Answer}
 use Rattle.language.specs.declared.Answer.the-variants.{Count, Refusal}
+use Rattle.listing.specs.Text.{replyText}
 use Rattle.files.specs.Files.{most, version, headerBytes, wordAt, marked, refuses, unpacking}
 use Rattle.files.specs.declared.Form.{Form}
 use Rattle.files.specs.declared.Form.the-variants.{Rules}
-use Rattle.bench.specs.Bench.{mostBytes, zeros, onward, translated, Within, counting, refusing, Translates, Counts}
+use Rattle.desk.specs.Desk.{mostBytes, zeros, onward, translated, Within, counting, refusing, Translates, Counts, countOf, imageZeros, outcomeText, answerText}
 
 -- an outcome on an output of m words: it counts no more, and leaves as many
 record Sound (m : ℕ) (x : Outcome ℕ) : Type 0 where
@@ -105,21 +106,37 @@ module _ (bs out : List ℕ) where
 
 -- the count of an answer, and none of a refusal
 pub c-refusal : {a : Answer} {e : ℕ} → a ≡ Refusal e → Counts a 0
-c-refusal k = record { most = λ m w. omega arith }
+unfolding replyOf countOf
+c-refusal k = record { is = sym (ap (λ x. countOf (replyOf x)) k) }
 
 pub c-count : {a : Answer} {n : ℕ} → a ≡ Count n → Counts a n
-unfolding replyOf
-c-count k = record { most = λ m w. count-within (subst (λ x. Within m (replyOf x)) k w) }
+unfolding replyOf countOf
+c-count k = record { is = sym (ap (λ x. countOf (replyOf x)) k) }
 
--- the parts of the buffers that the program hands on
-module _ {a : Answer} {r : ℕ} (c : Counts a r) where
-  pub m-image : {bs out o : List ℕ} → Translates bs out a o → r ≤ length o
-  m-image t = rw (t .kept) (c .most _ (t .within))
+within-most : {m : ℕ} {r : Reply ℕ} → Within m r → countOf r ≤ m
+unfolding countOf
+within-most (counting h) = h
+within-most refusing = omega arith
 
-  pub m-text : {o : List ℕ} (ws out : List ℕ) → told a o ≡ filled ws out → r ≤ length o
-  m-text ws out e = rw (told-kept a e (sound-filled ws out)) (c .most _ (told-within a e (sound-filled ws out)))
+-- the part of the image that is shown
+module _ {a : Answer} {r : ℕ} (c : Counts a r) {bs out o : List ℕ} (t : Translates bs out a o) where
+  pub a-inside : r ≤ length o
+  a-inside = rw (t .kept, c .is) (within-most (t .within))
 
-pub m-taken : {r : ℕ} (l : List ℕ) → r ≤ length l → r ≡ length (take r l)
-m-taken {r} l h = sym (length-take-le r l h)
+  pub a-taken : r ≡ length (take r o)
+  a-taken = sym (length-take-le r o a-inside)
 
-pub ruleset ways = (t-long, t-refused, t-inside, t-taken, t-written, c-refusal, c-count)
+-- what is shown of a reply is the text of the outcome
+reply-text : (r : Reply ℕ) (ws : List ℕ) → replyText r (take (countOf r) ws) ≡ outcomeText r ws
+unfolding outcomeText countOf replyText
+reply-text (success n) ws = refl
+reply-text (refusal e) ws = refl
+
+pub a-shown : (bs text : List ℕ) (a : Answer) {r : ℕ} {o : List ℕ} {x : Outcome ℕ} → Counts a r → Translates bs imageZeros a o
+    → x ≡ filled (replyText (replyOf a) (take r o)) text → x ≡ filled (answerText bs) text
+unfolding answerText
+a-shown bs text a {r} {o} c t e =
+    e ∙ ap (λ n. filled (replyText (replyOf a) (take n o)) text) (c .is) ∙ ap (λ ws. filled ws text) (reply-text (replyOf a) o)
+    ∙ ap (λ x. filled (outcomeText (x .reply) (x .output)) text) (t .is)
+
+pub ruleset ways = (t-long, t-refused, t-inside, t-taken, t-written, c-refusal, c-count, a-inside, a-taken, a-shown)

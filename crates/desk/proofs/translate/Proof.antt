@@ -1,8 +1,8 @@
--- `bench::translate` meets its contract: each way out is one of the definition's. Assumes nothing.
-use Rattle.bench.proofs.Ways.{ways}
+-- `desk::translate` meets its contract: each way out is one of the definition's. Assumes nothing.
+use Rattle.desk.proofs.Ways.{ways}
 use borrow.Author.Needs.{needs}
-use Rattle.bench.proofs.translate.Statement.{statement}
-use Rattle.bench.proofs.translate.Tie as tie
+use Rattle.desk.proofs.translate.Statement.{statement}
+use Rattle.desk.proofs.translate.Tie as tie
 
 returns : tie.Need-returns
 returns c = search ways

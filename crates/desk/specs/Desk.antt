@@ -1,14 +1,15 @@
--- What the bench program makes of its input: document 01, "Worked rules", the last paragraph.
+-- What the bench program makes of the bytes that arrive, and what it prints: document 01, "Worked rules", the last paragraph.
 use Prim.Native.Nat.{ℕ, _≤_}
 use mathlib.Core.Bool.{cond}
 use mathlib.Core.Path.{_≡_}
-use mathlib.Core.List.{List}
+use mathlib.Core.List.{List, []}
 use lib.Dec.{ltb}
 use lib.ListN.{length, take, replicate}
-use Rattle.language.specs.Limits.{mostWords}
+use Rattle.language.specs.Limits.{mostWords, mostImageWords}
 use Rattle.language.specs.Read.{read}
 use Rattle.language.specs.Calls.{Reply, success, refusal, Outcome, written, replyOf, told}
 use Rattle.language.specs.declared.Answer.{Answer}
+use Rattle.listing.specs.Text.{replyText}
 use Rattle.files.specs.Files.{refuses, unpacking}
 use Rattle.files.specs.declared.Form.the-variants.{Rules}
 
@@ -31,6 +32,24 @@ translated bs out =
     cond (ltb mostBytes (length bs)) (refuses 2 out)
     (onward (unpacking Rules bs zeros .reply) (unpacking Rules bs zeros .output) out)
 
+-- the words lent for the image
+abbrev pub imageZeros : List ℕ
+imageZeros = replicate mostImageWords 0
+
+-- the text of an outcome: its reply, and on success the words that it counts
+unfoldable pub outcomeText : Reply ℕ → List ℕ → List ℕ
+outcomeText (success n) ws = replyText (success n) (take n ws)
+outcomeText (refusal e) ws = replyText (refusal e) []
+
+-- the program's whole answer to the bytes that arrived
+unfoldable pub answerText : List ℕ → List ℕ
+answerText bs = outcomeText (translated bs imageZeros .reply) (translated bs imageZeros .output)
+
+-- what a reply counts
+unfoldable pub countOf : Reply ℕ → ℕ
+countOf (success n) = n
+countOf (refusal e) = 0
+
 -- a reply counts no more than m
 pub data Within (m : ℕ) : Reply ℕ → Type 0 where
   counting : {n : ℕ} → n ≤ m → Within m (success n)
@@ -42,6 +61,6 @@ pub record Translates (bs out : List ℕ) (a : Answer) (o : List ℕ) : Type 0 w
   pub within : Within (length out) (replyOf a)
   pub kept : length o ≡ length out
 
--- r is no more than whatever bounds the answer's count
+-- r is the answer's count, and 0 of a refusal
 pub record Counts (a : Answer) (r : ℕ) : Type 0 where
-  pub most : (m : ℕ) → Within m (replyOf a) → r ≤ m
+  pub is : r ≡ countOf (replyOf a)
