@@ -13,7 +13,7 @@
  *   file 57,351 bytes. From 65,536 on it is a refusal, 65,536 and the refusal's number. The reply and all that a call leaves
  *   in an output are determined by what was lent.
  * - A refusal leaves every buffer as it was. Success fills the front of the output; the rest of it is as it was.
- * - No call keeps anything, waits, allocates memory, or fails to return, and each uses less stack than 32 KiB.
+ * - No call keeps anything, waits, allocates memory, or fails to return. The stack that each uses is in docs/COST.md.
  * - Any words, any bytes and any lengths may be lent. What the functions cannot see is the caller's part: each pointer is to
  *   as many elements as its length says, is aligned for them, and an output overlaps nothing else that is lent to the call.
  */
