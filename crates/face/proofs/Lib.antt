@@ -1,0 +1,4 @@
+pub mod Faults
+pub mod Replies
+pub mod Ways
+pub mod Promises

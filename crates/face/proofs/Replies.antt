@@ -1,0 +1,107 @@
+-- What the definitions reply fits the face's numbers: a count is below 65,536, and a refusal is one of document 01's. An image has at most seven words
+-- for each of its rule's, and a file is as long as its words ask.
+-- Assumes nothing.
+use Prim.Native.Nat.{ℕ, _+_, _*_, _<_, _≤_}
+use mathlib.Core.Path.{_≡_, refl, ap}
+use mathlib.Core.Bool.{Bool, true, false, cond}
+use mathlib.Core.List.{List}
+use native.Mathlib.Omega.{arith}
+use lib.Dec.{ltb, eqb}
+use lib.ListN.{length}
+use borrow.Author.Tests.{ltb-false}
+use Rattle.language.specs.Term.{rules, images, Term}
+use Rattle.language.specs.Words.{words}
+use Rattle.language.specs.Limits.{mostWords, mostImageWords, Rule}
+use Rattle.language.specs.Image.{image}
+use Rattle.language.specs.Read.{Reading, accepted, refused, read}
+use Rattle.language.specs.Calls.{Reply, Outcome, success, refusal, replyOf, checked, measured, filled, written}
+use Rattle.sizes.proofs.Promises.{seven-times}
+use Rattle.trust.proofs.Accepted.{accepted-rule}
+use Rattle.files.specs.Files.{most, headerBytes, wordAt, packed, wordsAt, refuses, marked, packing, unpacking}
+use Rattle.files.specs.declared.Form.{Form}
+use Rattle.files.specs.declared.Form.the-variants.{Rules, Images}
+use Rattle.files.proofs.Calls.{packed-length, wordsAt-length}
+use Rattle.face.specs.Numbers.{refusals}
+use Rattle.face.specs.Promises.{lastRefusal}
+use Rattle.face.proofs.Faults as faults
+use Rattle.face.proofs.Faults.{Listed, Judged, judged}
+
+-- a success of which Q holds, or a refusal of document 01's
+pub data Fair {A : Type 0} (Q : A → Type 0) : Reply A → Type 0 where
+  succeeds : {a : A} → Q a → Fair Q (success a)
+  refused-as : {e : ℕ} → Listed e → Fair Q (refusal e)
+
+abbrev pub Count : ℕ → Type 0
+Count n = n < refusals
+
+abbrev pub Any : Unit {0} → Type 0
+Any u = Unit {0}
+
+image-counts : (ws : List ℕ) (t : Term) → read ws ≡ accepted t → length (words images (image t)) ≤ mostImageWords
+image-counts ws t h = omega (arith, seven-times t, accepted-rule ws t h .short)
+
+pub checked-fair : (ws : List ℕ) → Fair Any (checked (read ws))
+unfolding checked
+checked-fair ws = go (judged ws)
+  where
+    go : {g : Reading} → Judged g → Fair Any (checked g)
+    go faults.accepts = succeeds tt
+    go (faults.refuses l) = refused-as l
+
+pub measured-fair : (ws : List ℕ) → Fair Count (measured (read ws))
+unfolding measured
+measured-fair ws = go (judged ws) refl
+  where
+    go : {g : Reading} → Judged g → read ws ≡ g → Fair Count (measured g)
+    go (faults.accepts {t}) h = let k : Count (length (words images (image t))) = omega (arith, image-counts ws t h) in succeeds k
+    go (faults.refuses l) h = refused-as l
+
+-- of an outcome: its reply is fair
+pub record Counted (o : Outcome ℕ) : Type 0 where
+  pub fair : Fair Count (o .reply)
+
+refuses-counted : (e : ℕ) (out : List ℕ) → 1 ≤ e → e ≤ lastRefusal → Counted (refuses e out)
+refuses-counted e out a b = record { fair = refused-as (record { first = a; last = b }) }
+
+test-counted : (b : Bool) {x y : Outcome ℕ} → (b ≡ true → Counted x) → (b ≡ false → Counted y) → Counted (cond b x y)
+test-counted true h k = h refl
+test-counted false h k = k refl
+
+-- 9, or as many as there are
+filled-counted : (ws out : List ℕ) → length ws < refusals → Counted (filled ws out)
+unfolding filled
+filled-counted ws out h =
+    test-counted (ltb (length out) (length ws)) (λ x. refuses-counted 9 out (omega arith) (omega arith)) (λ x. record { fair = succeeds h })
+
+pub written-counted : (ws out : List ℕ) → Counted (written (read ws) out)
+unfolding written
+written-counted ws out = go (judged ws) refl
+  where
+    go : {g : Reading} → Judged g → read ws ≡ g → Counted (written g out)
+    go (faults.accepts {t}) h = filled-counted (words images (image t)) out (omega (arith, image-counts ws t h))
+    go (faults.refuses l) h = record { fair = refused-as l }
+
+most-most : (f : Form) → most f ≤ mostImageWords
+most-most Rules = omega arith
+most-most Images = omega arith
+
+pub packing-counted : (f : Form) (ws out : List ℕ) → Counted (packing f ws out)
+unfolding packing
+packing-counted f ws out =
+    test-counted (eqb (length ws) 0) (λ x. refuses-counted 1 out (omega arith) (omega arith))
+    (λ x. test-counted (ltb (most f) (length ws)) (λ y. refuses-counted 2 out (omega arith) (omega arith))
+    (λ y. filled-counted (packed f ws) out (omega (arith, packed-length f ws, ltb-false (most f) (length ws) y, most-most f))))
+
+pub unpacking-counted : (f : Form) (bs out : List ℕ) → Counted (unpacking f bs out)
+unfolding unpacking
+unpacking-counted f bs out =
+    test-counted (marked f bs)
+    (λ a. test-counted (eqb (wordAt bs 3) 1)
+    (λ b. test-counted (eqb (length bs) (headerBytes + 2 * wordAt bs 5))
+    (λ c. test-counted (eqb (wordAt bs 5) 0) (λ x. refuses-counted 1 out (omega arith) (omega arith))
+    (λ x. test-counted (ltb (most f) (wordAt bs 5)) (λ y. refuses-counted 2 out (omega arith) (omega arith))
+    (λ y. filled-counted (wordsAt bs headerBytes (wordAt bs 5)) out
+    (omega (arith, wordsAt-length bs headerBytes (wordAt bs 5), ltb-false (most f) (wordAt bs 5) y, most-most f)))))
+    (λ c. refuses-counted 12 out (omega arith) (omega arith)))
+    (λ b. refuses-counted 11 out (omega arith) (omega arith)))
+    (λ a. refuses-counted 10 out (omega arith) (omega arith))

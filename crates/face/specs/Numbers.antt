@@ -1,0 +1,39 @@
+-- What the face's numbers mean. A program in C is answered by one number of 32 bits: below 65,536 it is a count, which is always less than that (an
+-- image has at most 28,672 words, and its file 57,351 bytes); from 65,536 on it is a refusal, and what is above 65,536 is document 01's number.
+use Prim.Native.Nat.{ℕ, zero, suc, _-_, _<_}
+use mathlib.Core.Path.{_≡_}
+use mathlib.Core.Bool.{cond}
+use lib.Dec.{ltb, eqb}
+use Rattle.language.specs.declared.Answer.{Answer}
+use Rattle.language.specs.declared.Answer.the-variants.{Count, Refusal}
+use Rattle.reading.specs.declared.Checked.{Checked}
+use Rattle.reading.specs.declared.Checked.the-variants as checking
+use Rattle.files.specs.declared.Form.{Form}
+use Rattle.files.specs.declared.Form.the-variants.{Rules, Images}
+use Rattle.face.specs.declared.Told.{Told}
+use Rattle.face.specs.declared.Told.the-variants.{Is, NoForm}
+
+-- where the refusals start
+abbrev pub refusals : ℕ
+refusals = 65536
+
+unfoldable pub answerOf : ℕ → Answer
+answerOf n = cond (ltb n refusals) (Count n) (Refusal (n - refusals))
+
+-- "The checking call gives only success or the refusal": success is 0
+unfoldable pub checkedOf : ℕ → Checked
+checkedOf n = cond (eqb n 0) checking.Success (checking.Refusal (n - refusals))
+
+-- the forms of files: 0 is of rules (mark LRS), 1 of images (LRI); no other number is a form's
+unfoldable pub formOf : ℕ → Told
+formOf zero = Is Rules
+formOf (suc zero) = Is Images
+formOf (suc (suc n)) = NoForm
+
+-- the reply where the form's number is no form's. Document 01 numbers refusals from 1 on, so that the number 0 is free and stays free
+abbrev pub noForm : ℕ
+noForm = refusals
+
+-- an answer that a number can mean
+pub record Small (a : Answer) : Type 0 where
+  pub below : (n : ℕ) → a ≡ Count n → n < refusals

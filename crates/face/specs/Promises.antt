@@ -1,0 +1,25 @@
+-- What a program in C may rely on, of whatever outcome the contracts allow.
+use Prim.Native.Nat.{ℕ, _+_, _<_, _≤_}
+use mathlib.Core.Path.{_≡_}
+use Rattle.face.specs.Numbers.{refusals}
+use Rattle.face.specs.Calls.{Asked, Returned, check, measure, write, pack, unpack, Means}
+
+-- "prove that two outcomes allowed by it are equal": of every call the number too
+abbrev pub NumberDetermined : Type 0
+NumberDetermined = (c : Asked) (x y : Returned c) → Means c x → Means c y → x ≡ y
+
+-- the number returned
+abbrev pub numberOf : (c : Asked) → Returned c → ℕ
+numberOf (check ws) r = r
+numberOf (measure ws) r = r
+numberOf (write ws out) r = r .0
+numberOf (pack n ws out) r = r .0
+numberOf (unpack n bs out) r = r .0
+
+-- document 01's last refusal
+abbrev pub lastRefusal : ℕ
+lastRefusal = 12
+
+-- no number but a count's and those of the refusals 0 (no form) to 12 is ever returned
+abbrev pub NumbersRange : Type 0
+NumbersRange = (c : Asked) (r : Returned c) → Means c r → numberOf c r ≤ refusals + lastRefusal

@@ -1,0 +1,98 @@
+// The controller's face: the public calls for programs in C. Words, bytes and outputs are lent as a pointer and a length; the reply is one number,
+// whose meaning specs/Numbers.antt gives. As in `rules` no call has a `requires`, and `Means` says of each which outcomes are allowed.
+use files::Form;
+use language::Answer;
+use reading::Checked;
+ghost use mathlib.Core.Path.{_≡_};
+ghost use Rattle.face.specs.Numbers.{Small, answerOf, checkedOf, formOf};
+ghost use Rattle.face.specs.Calls.{Asked, Means};
+
+// A refusal's reply is its number above this one. Below it are the counts.
+const REFUSALS: u32 = 65536;
+
+// The checking call's reply to a rule.
+const SUCCESS: u32 = 0;
+
+// The reply where the number told is no form's: document 01 numbers refusals from 1 on.
+const NO_FORM: u32 = 65536;
+
+// The numbers of the forms.
+const RULES: u32 = 0;
+
+const IMAGES: u32 = 1;
+
+// What a number tells of a file.
+enum Told {
+    Is(Form),
+    NoForm,
+}
+
+fn form_of(n: u32) -> Told
+    ensures { λ r. ⌜ r ≡ formOf n ⌝ }
+{
+    match n {
+        RULES => Told::Is(Form::Rules),
+        IMAGES => Told::Is(Form::Images),
+        _ => Told::NoForm,
+    }
+}
+
+// The number that means this answer.
+fn number(a: Answer) -> u32
+    requires { ⌜ Small a ⌝ }
+    ensures { λ r. ⌜ answerOf r ≡ a ⌝ }
+{
+    match a {
+        Answer::Count(n) => n as u32,
+        Answer::Refusal(e) => REFUSALS + e as u32,
+    }
+}
+
+// Whether the words are a rule.
+#[no_mangle]
+pub extern "C" fn peatnickel_check(words: &[u16]) -> u32
+    ensures { λ r. ⌜ Means (Asked.check (now (words .entry))) r ⌝ }
+{
+    match rules::check(words) {
+        Checked::Success => SUCCESS,
+        Checked::Refusal(e) => REFUSALS + e as u32,
+    }
+}
+
+// How many words the image of a rule has.
+#[no_mangle]
+pub extern "C" fn peatnickel_measure(words: &[u16]) -> u32
+    ensures { λ r. ⌜ Means (Asked.measure (now (words .entry))) r ⌝ }
+{
+    number(rules::measure(words))
+}
+
+// Writes the image of a rule at the front of the output, and gives its word count.
+#[no_mangle]
+pub extern "C" fn peatnickel_write(out: &mut [u16], words: &[u16]) -> u32
+    ensures { λ r. ⌜ Means (Asked.write (now (words .entry)) (now (out .entry))) (r, now (out .exit)) ⌝ }
+{
+    number(rules::write(out, words))
+}
+
+// Writes the file of the words, of the form told, at the front of the output, and gives the bytes written.
+#[no_mangle]
+pub extern "C" fn peatnickel_pack(out: &mut [u8], form: u32, words: &[u16]) -> u32
+    ensures { λ r. ⌜ Means (Asked.pack form (now (words .entry)) (now (out .entry))) (r, now (out .exit)) ⌝ }
+{
+    match form_of(form) {
+        Told::NoForm => NO_FORM,
+        Told::Is(f) => number(rules::pack(out, f, words)),
+    }
+}
+
+// Writes the words of a file, of the form told, at the front of the output, and gives how many. Reads no terms.
+#[no_mangle]
+pub extern "C" fn peatnickel_unpack(out: &mut [u16], form: u32, bytes: &[u8]) -> u32
+    ensures { λ r. ⌜ Means (Asked.unpack form (now (bytes .entry)) (now (out .entry))) (r, now (out .exit)) ⌝ }
+{
+    match form_of(form) {
+        Told::NoForm => NO_FORM,
+        Told::Is(f) => number(rules::unpack(out, f, bytes)),
+    }
+}

@@ -1,0 +1,297 @@
+/*
+ * Calls every function of peatnickel.h as a program in C does: on the paper's worked rules A to O, on every refusal from 0 to
+ * 12, on outputs one element short, and at the limits. Each call is made on a painted output, and everything that the reply
+ * does not name must keep its paint. The cases and the images beside the paper's own come from the second translator, peer/.
+ */
+#include <stdbool.h>
+#include <stdint.h>
+#include <stdio.h>
+#include <stdlib.h>
+#include <string.h>
+
+#include "../peer/cases.h"
+#include "../peer/gen_record.h"
+#include "../peer/image.h"
+#include "peatnickel.h"
+
+enum {
+    RULE_MOST = 4096,
+    IMAGE_MOST = 28672,
+    HEADER = 7,
+    ROOM = IMAGE_MOST + 8,
+    FILE_ROOM = HEADER + 2 * ROOM,
+    LAST_REFUSAL = 12
+};
+
+static unsigned checks;
+static unsigned failures;
+static bool given[LAST_REFUSAL + 1]; /* the refusals that were seen */
+
+static uint16_t words_out[ROOM];
+static uint8_t bytes_out[FILE_ROOM];
+
+static void expect(bool holds, const char *what, const char *name)
+{
+    checks++;
+    if (holds)
+        return;
+    failures++;
+    printf("wrong: %s: %s\n", name, what);
+}
+
+/* A reply is what it has to be; a refusal is noted as seen. */
+static void expect_reply(uint32_t reply, uint32_t expected, const char *what, const char *name)
+{
+    expect(reply == expected, what, name);
+    if (peatnickel_is_refusal(reply) && peatnickel_refusal_of(reply) <= LAST_REFUSAL)
+        given[peatnickel_refusal_of(reply)] = true;
+}
+
+static uint32_t refusal(uint32_t number)
+{
+    return PEATNICKEL_REFUSALS + number;
+}
+
+/* Paint that differs from place to place. */
+static uint16_t word_paint(size_t i)
+{
+    return (uint16_t)(0xA500 + i * 7);
+}
+
+static uint8_t byte_paint(size_t i)
+{
+    return (uint8_t)(0x5A + i * 7);
+}
+
+static void paint(void)
+{
+    for (size_t i = 0; i < ROOM; i++)
+        words_out[i] = word_paint(i);
+    for (size_t i = 0; i < FILE_ROOM; i++)
+        bytes_out[i] = byte_paint(i);
+}
+
+/* All words and bytes of the outputs from these places on have their paint. */
+static bool painted_from(size_t words, size_t bytes)
+{
+    for (size_t i = words; i < ROOM; i++)
+        if (words_out[i] != word_paint(i))
+            return false;
+    for (size_t i = bytes; i < FILE_ROOM; i++)
+        if (bytes_out[i] != byte_paint(i))
+            return false;
+    return true;
+}
+
+static bool front_is(struct word_list expected)
+{
+    return memcmp(words_out, expected.words, expected.count * sizeof words_out[0]) == 0;
+}
+
+/* The image, from the second translator. */
+static struct word_list peer_image(struct word_list rule)
+{
+    static uint16_t words[IMAGE_MOST];
+    struct reply reply = write_image(rule, words, IMAGE_MOST);
+
+    return (struct word_list){ words, reply.count };
+}
+
+/* A rule that is accepted: every call on it, with room to spare, just room, and one word too few. */
+static void try_accepted(const char *name, struct word_list rule, struct word_list image)
+{
+    uint32_t count = (uint32_t)image.count;
+
+    expect_reply(peatnickel_check(rule.words, rule.count), 0, "check", name);
+    expect_reply(peatnickel_measure(rule.words, rule.count), count, "measure", name);
+    paint();
+    expect_reply(peatnickel_write(words_out, ROOM, rule.words, rule.count), count, "write", name);
+    expect(front_is(image), "words written", name);
+    expect(painted_from(image.count, 0), "words past the image", name);
+    paint();
+    expect_reply(peatnickel_write(words_out, image.count, rule.words, rule.count), count, "write, just room", name);
+    expect(front_is(image) && painted_from(image.count, 0), "words written, just room", name);
+    paint();
+    expect_reply(peatnickel_write(words_out, image.count - 1, rule.words, rule.count), refusal(PEATNICKEL_NO_ROOM),
+                 "write, one word short", name);
+    expect(painted_from(0, 0), "output one word short is untouched", name);
+}
+
+/* A rule that is refused: every call on it gives the number, and nothing is touched. */
+static void try_refused(const char *name, struct word_list rule, uint32_t number)
+{
+    paint();
+    expect_reply(peatnickel_check(rule.words, rule.count), refusal(number), "check", name);
+    expect_reply(peatnickel_measure(rule.words, rule.count), refusal(number), "measure", name);
+    expect_reply(peatnickel_write(words_out, ROOM, rule.words, rule.count), refusal(number), "write", name);
+    expect_reply(peatnickel_write(NULL, 0, rule.words, rule.count), refusal(number), "write to no output", name);
+    expect(painted_from(0, 0), "output of a refusal is untouched", name);
+}
+
+/* Packs the words and unpacks the file, with just room and with one element too few; the bytes are given where known. */
+static void try_file(const char *name, uint32_t form, struct word_list words, const uint8_t *bytes)
+{
+    static uint8_t file[FILE_ROOM];
+    size_t size = HEADER + 2 * words.count;
+
+    paint();
+    expect_reply(peatnickel_pack(bytes_out, size - 1, form, words.words, words.count), refusal(PEATNICKEL_NO_ROOM),
+                 "pack, one byte short", name);
+    expect(painted_from(0, 0), "output one byte short is untouched", name);
+    expect_reply(peatnickel_pack(bytes_out, FILE_ROOM, form, words.words, words.count), (uint32_t)size, "pack", name);
+    expect(bytes == NULL || memcmp(bytes_out, bytes, size) == 0, "bytes packed", name);
+    expect(painted_from(0, size), "bytes past the file", name);
+    memcpy(file, bytes_out, size);
+    paint();
+    expect_reply(peatnickel_unpack(words_out, words.count - 1, form, file, size), refusal(PEATNICKEL_NO_ROOM),
+                 "unpack, one word short", name);
+    expect(painted_from(0, 0), "output one word short is untouched", name);
+    expect_reply(peatnickel_unpack(words_out, words.count, form, file, size), (uint32_t)words.count, "unpack", name);
+    expect(front_is(words) && painted_from(words.count, 0), "words unpacked", name);
+}
+
+static void try_bad_file(const char *name, uint32_t form, const uint8_t *bytes, size_t count, uint32_t number)
+{
+    paint();
+    expect_reply(peatnickel_unpack(words_out, ROOM, form, bytes, count), refusal(number), "unpack", name);
+    expect(painted_from(0, 0), "output of a refusal is untouched", name);
+}
+
+static void try_bad_pack(const char *name, uint32_t form, struct word_list words, uint32_t number)
+{
+    paint();
+    expect_reply(peatnickel_pack(bytes_out, FILE_ROOM, form, words.words, words.count), refusal(number), "pack", name);
+    expect(painted_from(0, 0), "output of a refusal is untouched", name);
+}
+
+/* Cases A to N, and of the other images B's, which the paper prints. */
+static void worked_cases(void)
+{
+    char name[] = "case ?";
+
+    for (size_t i = 0; i < ACCEPTED_CASES; i++) {
+        struct word_list image = peer_image(accepted_cases[i].rule);
+
+        name[5] = accepted_cases[i].name;
+        expect(image.count == accepted_cases[i].image_count, "the paper's count", name);
+        try_accepted(name, accepted_cases[i].rule, image);
+        try_file(name, PEATNICKEL_RULES, accepted_cases[i].rule, NULL);
+        try_file(name, PEATNICKEL_IMAGES, image, NULL);
+    }
+    try_accepted("case B, the paper's image", accepted_cases[1].rule, case_b_image);
+    try_file("case B, the paper's file", PEATNICKEL_RULES, accepted_cases[1].rule, case_b_file.bytes);
+    for (size_t i = 0; i < REFUSED_CASES; i++) {
+        name[5] = refused_cases[i].name;
+        try_refused(name, refused_cases[i].rule, refused_cases[i].refusal.number);
+    }
+    paint();
+    expect_reply(peatnickel_write(words_out, N_SHORT_OUTPUT, accepted_cases[0].rule.words, 2), refusal(PEATNICKEL_NO_ROOM),
+                 "7 words", "case N");
+    expect(painted_from(0, 0), "output untouched", "case N");
+    expect_reply(peatnickel_write(words_out, N_LONG_ENOUGH_OUTPUT, accepted_cases[0].rule.words, 2), 8, "8 words", "case N");
+}
+
+/* Case O: 63 functions are accepted, 64 are too deep. */
+static void case_o(void)
+{
+    static uint16_t words[O_REFUSED_FUNCTIONS + 2];
+    struct word_sink sink = sink_into(words, O_REFUSED_FUNCTIONS + 2);
+
+    put_case_o(&sink, O_REFUSED_FUNCTIONS);
+    try_refused("case O, 64 functions", sink_words(&sink), PEATNICKEL_TOO_DEEP);
+    sink = sink_into(words, O_REFUSED_FUNCTIONS + 2);
+    put_case_o(&sink, O_ACCEPTED_FUNCTIONS);
+    try_accepted("case O, 63 functions", sink_words(&sink), peer_image(sink_words(&sink)));
+}
+
+/* A rule of 4,096 words is read; one of 4,097 is not. */
+static void longest_rules(void)
+{
+    static uint16_t words[RULE_MOST + 1];
+    struct word_sink sink = sink_into(words, RULE_MOST + 1);
+
+    put_filler(&sink, RULE_MOST);
+    try_accepted("4,096 words of one value", sink_words(&sink), peer_image(sink_words(&sink)));
+    sink = sink_into(words, RULE_MOST + 1);
+    put_words(&sink, (struct word_list)WORD_LIST(0x0401, 0x0201, 0x0100));
+    put_filler(&sink, RULE_MOST - sink.count);
+    try_accepted("4,096 words of a call", sink_words(&sink), peer_image(sink_words(&sink)));
+    sink = sink_into(words, RULE_MOST + 1);
+    put_filler(&sink, RULE_MOST + 1);
+    try_refused("4,097 words", sink_words(&sink), PEATNICKEL_TOO_MANY_WORDS);
+}
+
+/* The header of a file that says it holds so many words. */
+static void put_file_header(uint8_t *bytes, char third, unsigned version, size_t count)
+{
+    const uint8_t header[HEADER] = { 'L', 'R', (uint8_t)third, (uint8_t)version, (uint8_t)(version >> 8),
+                                     (uint8_t)count, (uint8_t)(count >> 8) };
+
+    memcpy(bytes, header, HEADER);
+}
+
+/* Files at the limit of their form, and one word past it. */
+static void longest_files(void)
+{
+    static uint16_t words[IMAGE_MOST + 1];
+    static uint8_t file[HEADER + 2 * (IMAGE_MOST + 1)];
+    const struct {
+        const char *name;
+        uint32_t form;
+        char third;
+        size_t most;
+    } forms[] = { { "longest file of rules", PEATNICKEL_RULES, 'S', RULE_MOST },
+                  { "longest file of images", PEATNICKEL_IMAGES, 'I', IMAGE_MOST } };
+
+    for (size_t i = 0; i <= IMAGE_MOST; i++)
+        words[i] = (uint16_t)(i * 31 + 5);
+    for (size_t i = 0; i < 2; i++) {
+        size_t past = forms[i].most + 1;
+
+        try_file(forms[i].name, forms[i].form, (struct word_list){ words, forms[i].most }, NULL);
+        try_bad_pack(forms[i].name, forms[i].form, (struct word_list){ words, past }, PEATNICKEL_TOO_MANY_WORDS);
+        put_file_header(file, forms[i].third, 1, past);
+        try_bad_file(forms[i].name, forms[i].form, file, HEADER + 2 * past, PEATNICKEL_TOO_MANY_WORDS);
+    }
+}
+
+/* The refusals of files: 10, 11, 12, 1, in this order, and no form. */
+static void bad_files(void)
+{
+    uint8_t file[HEADER + 2] = { 0 };
+
+    put_file_header(file, 'S', 1, 1);
+    try_bad_file("no bytes", PEATNICKEL_RULES, NULL, 0, PEATNICKEL_WRONG_MARK);
+    try_bad_file("6 bytes", PEATNICKEL_RULES, file, HEADER - 1, PEATNICKEL_WRONG_MARK);
+    try_bad_file("rules for images", PEATNICKEL_IMAGES, file, sizeof file, PEATNICKEL_WRONG_MARK);
+    put_file_header(file, 'I', 1, 1);
+    try_bad_file("images for rules", PEATNICKEL_RULES, file, sizeof file, PEATNICKEL_WRONG_MARK);
+    put_file_header(file, 'S', 2, 7);
+    try_bad_file("version 2", PEATNICKEL_RULES, file, sizeof file, PEATNICKEL_WRONG_VERSION);
+    put_file_header(file, 'S', 0x0101, 1);
+    try_bad_file("version 257", PEATNICKEL_RULES, file, sizeof file, PEATNICKEL_WRONG_VERSION);
+    put_file_header(file, 'S', 1, 0);
+    try_bad_file("one word more than counted", PEATNICKEL_RULES, file, sizeof file, PEATNICKEL_WRONG_LENGTH);
+    try_bad_file("count 0", PEATNICKEL_RULES, file, HEADER, PEATNICKEL_NO_WORDS);
+    put_file_header(file, 'S', 1, 1);
+    try_bad_file("a byte short", PEATNICKEL_RULES, file, sizeof file - 1, PEATNICKEL_WRONG_LENGTH);
+    try_bad_file("form 2", 2, file, sizeof file, PEATNICKEL_NO_FORM);
+    try_bad_file("form 4,294,967,295", UINT32_MAX, NULL, 0, PEATNICKEL_NO_FORM);
+    try_bad_pack("form 2", 2, accepted_cases[0].rule, PEATNICKEL_NO_FORM);
+    try_bad_pack("form 65,536", 65536, accepted_cases[0].rule, PEATNICKEL_NO_FORM);
+    try_bad_pack("no words of rules", PEATNICKEL_RULES, (struct word_list){ NULL, 0 }, PEATNICKEL_NO_WORDS);
+    try_bad_pack("no words of images", PEATNICKEL_IMAGES, (struct word_list){ NULL, 0 }, PEATNICKEL_NO_WORDS);
+}
+
+int main(void)
+{
+    worked_cases();
+    case_o();
+    longest_rules();
+    longest_files();
+    bad_files();
+    for (unsigned number = 0; number <= LAST_REFUSAL; number++)
+        expect(given[number], "each refusal was given", "refusals");
+    printf("%u checks, %u failures\n", checks, failures);
+    return failures == 0 ? EXIT_SUCCESS : EXIT_FAILURE;
+}

@@ -1,0 +1,195 @@
+#include "shapes.h"
+
+#include "../peer/gen_record.h"
+#include "../peer/rule.h"
+#include "../peer/term.h"
+
+enum { LEAF = 2, EIGHT = 8, LET_LEAST = 5, TOWER_MOST = 32, LEVELS = RULE_DEPTH_MOST - 2 };
+
+/* So many words in parts, as even as can be. */
+static void put_even(struct word_sink *sink, void (*put)(struct word_sink *, size_t), size_t words, size_t parts)
+{
+    for (; parts > 0; parts--) {
+        size_t share = words / parts;
+
+        put(sink, share);
+        words -= share;
+    }
+}
+
+/* Calls of seven arguments; a part that is too small for another is a value. */
+static void put_calls(struct word_sink *sink, size_t words)
+{
+    if (words < 1 + EIGHT * LEAF) {
+        put_filler(sink, words);
+        return;
+    }
+    put_kind(sink, KIND_CALL, EIGHT - 1);
+    put_even(sink, put_calls, words - 1, EIGHT);
+}
+
+static void put_lets(struct word_sink *sink, size_t words)
+{
+    if (words < LET_LEAST) {
+        put_filler(sink, words);
+        return;
+    }
+    put_kind(sink, KIND_LET, 0);
+    put_even(sink, put_lets, words - 1, 2);
+}
+
+/* A match of seven arms, whose two words are its own. */
+static void put_matches(struct word_sink *sink, size_t words)
+{
+    const size_t own = 1 + 2 * (EIGHT - 1);
+    size_t share = words / EIGHT;
+
+    if (words < own + EIGHT * LEAF) {
+        put_filler(sink, words);
+        return;
+    }
+    words -= own;
+    share = words / EIGHT;
+    put_kind(sink, KIND_MATCH, EIGHT - 1);
+    put_matches(sink, share);
+    for (size_t arms = EIGHT - 1; arms > 0; arms--) {
+        words -= share;
+        share = words / arms;
+        put_two(sink, KIND_ARM, arms, 0);
+        put_matches(sink, share);
+    }
+}
+
+/* Functions within functions, at most 32 words high, side by side in lets. */
+static void put_functions(struct word_sink *sink, size_t words)
+{
+    if (words > TOWER_MOST) {
+        put_kind(sink, KIND_LET, 0);
+        put_even(sink, put_functions, words - 1, 2);
+        return;
+    }
+    for (; words > 1; words--)
+        put_kind(sink, KIND_FUNCTION, 1);
+    put_kind(sink, KIND_VARIABLE, 0);
+}
+
+/*
+ * Constructors that are no atoms, each with a value before the next one; the innermost holds a call. Whether each of them is an
+ * atom is seen only at its end. As many levels as there are words for, up to the depth's limit.
+ */
+static void put_constructors(struct word_sink *sink, size_t words)
+{
+    const struct word_list call = WORD_LIST(0x0401, 0x0201, 0x0100, 0x0600, 0x0000);
+    size_t levels = (words - call.count) / (2 * LEAF);
+
+    if (levels > LEVELS - 2)
+        levels = LEVELS - 2;
+    for (words -= call.count; levels > 0; levels--) {
+        size_t share = words / levels;
+
+        put_two(sink, KIND_CONSTRUCTOR, levels, 2);
+        put_filler(sink, share - 2);
+        words -= share;
+    }
+    put_words(sink, call);
+}
+
+const struct shape grown_shapes[GROWN_SHAPES] = {
+    { "calls", put_calls },         { "lets", put_lets },
+    { "matches", put_matches },     { "functions", put_functions },
+    { "nested constructors", put_constructors },
+};
+
+/* One argument of the outermost function, for leaves of one word. */
+static void put_opening(struct word_sink *sink)
+{
+    put_kind(sink, KIND_FUNCTION, 1);
+}
+
+static void put_variables(struct word_sink *sink, size_t count)
+{
+    for (; count > 0; count--)
+        put_kind(sink, KIND_VARIABLE, 0);
+}
+
+static void put_deep_functions(struct word_sink *sink, size_t most)
+{
+    (void)most;
+    for (size_t i = 0; i <= LEVELS; i++)
+        put_kind(sink, KIND_FUNCTION, 1);
+    put_variables(sink, 1);
+}
+
+static void put_deep_lets(struct word_sink *sink, size_t most)
+{
+    (void)most;
+    put_opening(sink);
+    for (size_t i = 0; i < LEVELS; i++) {
+        put_kind(sink, KIND_LET, 0);
+        put_variables(sink, 1);
+    }
+    put_variables(sink, 1);
+}
+
+/* Calls of eight arguments, the next in the last one. */
+static void put_deep_calls(struct word_sink *sink, size_t most)
+{
+    (void)most;
+    put_opening(sink);
+    for (size_t i = 0; i < LEVELS; i++) {
+        put_kind(sink, KIND_CALL, EIGHT);
+        put_variables(sink, EIGHT);
+    }
+    put_variables(sink, 1);
+}
+
+/* Constructors of eight arguments, atoms all. */
+static void put_deep_atoms(struct word_sink *sink, size_t most)
+{
+    (void)most;
+    put_opening(sink);
+    for (size_t i = 0; i < LEVELS; i++) {
+        put_two(sink, KIND_CONSTRUCTOR, 0, EIGHT);
+        put_variables(sink, EIGHT - 1);
+    }
+    put_variables(sink, 1);
+}
+
+/* The same around a call, so that none is an atom. */
+static void put_deep_constructors(struct word_sink *sink, size_t most)
+{
+    (void)most;
+    put_opening(sink);
+    for (size_t i = 0; i < LEVELS - 1; i++) {
+        put_two(sink, KIND_CONSTRUCTOR, 0, EIGHT);
+        put_variables(sink, EIGHT - 1);
+    }
+    put_kind(sink, KIND_CALL, 1);
+    put_variables(sink, 2);
+}
+
+/* Matches with as many arms as the words allow, the next in the last arm. An arm of a variable has three words. */
+static void put_deep_matches(struct word_sink *sink, size_t most)
+{
+    size_t arms = ((most - 2) / LEVELS - 1) / 3;
+
+    if (arms > ARMS_MOST)
+        arms = ARMS_MOST;
+    put_opening(sink);
+    for (size_t i = 0; i < LEVELS; i++) {
+        put_kind(sink, KIND_MATCH, arms);
+        put_variables(sink, 1);
+        for (size_t arm = 1; arm < arms; arm++) {
+            put_two(sink, KIND_ARM, arm, 0);
+            put_variables(sink, 1);
+        }
+        put_two(sink, KIND_ARM, 0, 0);
+    }
+    put_variables(sink, 1);
+}
+
+const struct shape deep_shapes[DEEP_SHAPES] = {
+    { "functions", put_deep_functions }, { "lets", put_deep_lets },
+    { "calls", put_deep_calls },         { "constructors, atoms", put_deep_atoms },
+    { "constructors, not atoms", put_deep_constructors }, { "matches", put_deep_matches },
+};
