@@ -3,3 +3,4 @@ pub mod Accepted
 pub mod Complete
 pub mod Ranges
 pub mod Unique
+pub mod Images

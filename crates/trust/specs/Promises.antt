@@ -36,3 +36,7 @@ ImagesInRange = (t : Term) → Ranged rules t → Ranged images (image t)
 -- in either language the words of a term determine it, so that a statement about an image's words is one about the image
 abbrev pub WordsDetermine : Type 0
 WordsDetermine = (L : Lang) (t u : Term) → Ranged L t → Ranged L u → words L t ≡ words L u → t ≡ u
+
+-- so of every accepted rule: each word of its image fits 16 bits, and each number in it is within the image ranges
+abbrev pub AcceptedImagesFit : Type 0
+AcceptedImagesFit = (ws : List ℕ) (t : Term) → read ws ≡ accepted t → Ranged images (image t) × Fit (words images (image t))
