@@ -181,7 +181,9 @@ int demand3_over_corpus(FILE *in, FILE *out)
         records++;
     }
     print_tally(out, records, &tally);
-    if (!fine)
+    if (!fine) {
         fprintf(out, "disagreement at record %zu\n", records - 1);
+        print_words(out, record_words(corpus));
+    }
     return close_corpus(corpus) && fine ? EXIT_SUCCESS : EXIT_FAILURE;
 }

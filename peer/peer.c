@@ -3,9 +3,11 @@
 #include <stdlib.h>
 #include <string.h>
 
+#include "compare.h"
 #include "corpus.h"
 #include "demand3.h"
 #include "file.h"
+#include "fuzz.h"
 #include "gen.h"
 #include "image.h"
 #include "selftest.h"
@@ -102,6 +104,45 @@ static int run_rule_and_image(FILE *in, FILE *out)
     return EXIT_SUCCESS;
 }
 
+/* Decimal digits and nothing else. */
+static bool read_decimal(const char *text, unsigned long most,
+                         unsigned long *number)
+{
+    const int base = 10;
+    char *end;
+
+    *number = strtoul(text, &end, base);
+    return text[0] >= '0' && text[0] <= '9' && *end == '\0' &&
+           *number <= most;
+}
+
+/* SEED FIRST COUNT BYTES */
+static int write_random_records(char **arguments, FILE *out)
+{
+    const unsigned long most = UINT32_MAX;
+    unsigned long seed, first, count, bytes;
+
+    if (!read_decimal(arguments[0], most, &seed) ||
+        !read_decimal(arguments[1], most, &first) ||
+        !read_decimal(arguments[2], most, &count) ||
+        !read_decimal(arguments[3], most, &bytes)) {
+        fputs("peer: not a number below 4294967296\n", stderr);
+        return EXIT_FAILURE;
+    }
+    struct stretch stretch = { (uint32_t)seed, first, count, bytes };
+    fprintf(stderr, "%zu\n", write_stretch(out, stretch));
+    return ferror(out) ? EXIT_FAILURE : EXIT_SUCCESS;
+}
+
+static int say_usage(void)
+{
+    fputs("usage: peer [corpus | demand3 | gen | run | selftest |\n"
+          "             random SEED FIRST COUNT BYTES |\n"
+          "             compare REPLIES OTHER_REPLIES]\n",
+          stderr);
+    return EXIT_FAILURE;
+}
+
 static int choose_mode(const char *mode)
 {
     if (strcmp(mode, "corpus") == 0)
@@ -114,14 +155,29 @@ static int choose_mode(const char *mode)
         return run_rule_and_image(stdin, stdout);
     if (strcmp(mode, "selftest") == 0)
         return run_selftest(stdout);
-    fputs("usage: peer [corpus | demand3 | gen | run | selftest]\n", stderr);
-    return EXIT_FAILURE;
+    return say_usage();
+}
+
+/* The modes are told apart by their names and by how much each is given. */
+static int choose(int count, char **arguments)
+{
+    const int compare_arguments = 3;
+    const int random_arguments = 5;
+
+    if (count == 0)
+        return translate(stdin, stdout);
+    if (count == 1)
+        return choose_mode(arguments[0]);
+    if (count == compare_arguments && strcmp(arguments[0], "compare") == 0)
+        return compare_replies(stdin, arguments[1], arguments[2], stdout);
+    if (count == random_arguments && strcmp(arguments[0], "random") == 0)
+        return write_random_records(arguments + 1, stdout);
+    return say_usage();
 }
 
 int main(int argument_count, char **arguments)
 {
-    int status = argument_count < 2 ? translate(stdin, stdout)
-                                    : choose_mode(arguments[1]);
+    int status = choose(argument_count - 1, arguments + 1);
 
     if (fflush(stdout) != 0 || ferror(stdin))
         return EXIT_FAILURE;

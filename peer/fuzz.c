@@ -1,0 +1,142 @@
+#include "fuzz.h"
+
+#include <string.h>
+
+#include "file.h"
+#include "fuzz_shapes.h"
+#include "gen_random.h"
+
+/* Of a hundred rules, before any are damaged. */
+static const struct shape {
+    size_t share;
+    void (*put)(struct maker *, struct record *);
+} shapes[] = {
+    { 46, put_well_formed }, { 16, put_deep },  { 13, put_wide },
+    { 9, put_edges },        { 9, put_atoms },  { 5, put_random_words },
+    { 2, put_long },
+};
+
+enum { SHARES = 100 };
+
+/* One in so many is damaged, half of these by changed words. */
+enum { DAMAGED_ODDS = 5, CHANGED_WORDS_MOST = 3, APPENDED_WORDS_MOST = 4 };
+
+enum harm {
+    HARM_DROP,
+    HARM_DOUBLE,
+    HARM_CUT,
+    HARM_APPEND,
+    HARMS_BESIDES_CHANGES,
+    HARMS = 2 * HARMS_BESIDES_CHANGES
+};
+
+static void put_shape(struct maker *maker, struct record *record)
+{
+    size_t drawn = below(maker, SHARES);
+    const struct shape *shape = shapes;
+
+    while (drawn >= shape->share) {
+        drawn -= shape->share;
+        shape++;
+    }
+    shape->put(maker, record);
+}
+
+static void drop_word(struct maker *maker, struct record *record)
+{
+    size_t place = below(maker, record->sink.count);
+    uint16_t *word = &record->words[place];
+
+    record->sink.count--;
+    memmove(word, word + 1,
+            (record->sink.count - place) * sizeof record->words[0]);
+}
+
+static void double_word(struct maker *maker, struct record *record)
+{
+    size_t place = below(maker, record->sink.count);
+    uint16_t *word = &record->words[place];
+
+    memmove(word + 1, word,
+            (record->sink.count - place) * sizeof record->words[0]);
+    record->sink.count++;
+}
+
+/* Often a word that could stand there, taken from the rule itself. */
+static void append_words(struct maker *maker, struct record *record)
+{
+    for (size_t i = from_to(maker, 1, APPENDED_WORDS_MOST); i > 0; i--) {
+        uint16_t word = (uint16_t)next_random(maker);
+        size_t place = below(maker, record->sink.count);
+
+        put_word(&record->sink,
+                 one_in(maker, 2) ? word : record->words[place]);
+    }
+}
+
+/* Every shape leaves a word at least, and room for all that is added here. */
+static void harm_rule(struct maker *maker, struct record *record)
+{
+    switch (below(maker, HARMS)) {
+    case HARM_DROP:
+        drop_word(maker, record);
+        break;
+    case HARM_DOUBLE:
+        double_word(maker, record);
+        break;
+    case HARM_CUT:
+        record->sink.count = below(maker, record->sink.count);
+        break;
+    case HARM_APPEND:
+        append_words(maker, record);
+        break;
+    default:
+        for (size_t i = from_to(maker, 1, CHANGED_WORDS_MOST); i > 0; i--)
+            damage_word(maker, record);
+        break;
+    }
+}
+
+/* One step of splitmix64, so that neighbouring numbers share nothing. */
+static uint32_t state_of_rule(uint32_t seed, size_t number)
+{
+    const int seed_shift = 32;
+    uint64_t mixed = ((uint64_t)seed << seed_shift) + number;
+
+    mixed += 0x9E3779B97F4A7C15u;
+    mixed = (mixed ^ mixed >> 30) * 0xBF58476D1CE4E5B9u;
+    mixed = (mixed ^ mixed >> 27) * 0x94D049BB133111EBu;
+    mixed ^= mixed >> 31;
+    return (uint32_t)mixed == 0 ? 1 : (uint32_t)mixed;
+}
+
+static void put_rule(struct record *record, uint32_t seed, size_t number)
+{
+    const size_t words_most = RECORD_WORDS_MOST - APPENDED_WORDS_MOST;
+    struct maker maker =
+        maker_into(&record->sink, state_of_rule(seed, number));
+    bool harmed = one_in(&maker, DAMAGED_ODDS);
+
+    do {
+        maker = maker_into(&record->sink, maker.state);
+        put_shape(&maker, record);
+    } while (record->sink.count > words_most);
+    if (harmed)
+        harm_rule(&maker, record);
+}
+
+size_t write_stretch(FILE *out, struct stretch stretch)
+{
+    struct record record;
+    size_t written = 0;
+    size_t bytes = 0;
+
+    for (; written < stretch.count; written++) {
+        put_rule(&record, stretch.seed, stretch.first + written);
+        bytes += BYTES_OF_A_WORD * (1 + record.sink.count);
+        if (bytes > stretch.bytes)
+            break;
+        end_record(&record, out);
+    }
+    return written;
+}

@@ -1,0 +1,176 @@
+#include "fuzz_levels.h"
+
+#include "gen_fitting.h"
+#include "gen_free.h"
+#include "gen_record.h"
+
+enum { FREE_COUNT_MOST = 3, LARGE_COUNT_ODDS = 8, RECURSIVE_ODDS = 3 };
+
+/* One level: a head, and which of its parts is the inner level. */
+struct level {
+    enum kind kind;
+    size_t low;
+    size_t parts;
+    size_t inner;
+    size_t let_type; /* of what a let binds */
+    struct place place;
+};
+
+static size_t free_count(struct maker *maker, size_t most)
+{
+    bool large = one_in(maker, LARGE_COUNT_ODDS);
+
+    return from_to(maker, 1, large ? most : FREE_COUNT_MOST);
+}
+
+static enum kind function_kind(struct maker *maker)
+{
+    return one_in(maker, RECURSIVE_ODDS) ? KIND_RECURSIVE : KIND_FUNCTION;
+}
+
+/* Data is never a function, and a function is no constructor or call. */
+static enum kind fitting_kind(struct maker *maker, size_t type)
+{
+    static const enum kind of_data[] = { KIND_LET, KIND_MATCH,
+                                         KIND_CONSTRUCTOR, KIND_CALL };
+    static const enum kind of_functions[] = { KIND_LET, KIND_MATCH,
+                                              KIND_FUNCTION, KIND_FUNCTION };
+    size_t choice = below(maker, sizeof of_data / sizeof of_data[0]);
+    enum kind kind = type == DATA ? of_data[choice] : of_functions[choice];
+
+    return kind == KIND_FUNCTION ? function_kind(maker) : kind;
+}
+
+static enum kind free_kind(struct maker *maker)
+{
+    return from_to(maker, KIND_FUNCTION, KIND_MATCH);
+}
+
+static size_t argument_count(struct maker *maker, bool fitting)
+{
+    return fitting ? from_to(maker, 1, FITTING_ARGUMENTS_MOST)
+                   : free_count(maker, ARGUMENTS_MOST);
+}
+
+/* A fitting constructor's tag is its number of arguments. */
+static void choose_parts(struct maker *maker, bool fitting,
+                         struct level *level)
+{
+    switch (level->kind) {
+    case KIND_CALL:
+        level->low = argument_count(maker, fitting);
+        level->parts = level->low + 1;
+        return;
+    case KIND_LET:
+        level->parts = 2;
+        return;
+    case KIND_CONSTRUCTOR:
+        level->parts = fitting ? from_to(maker, 1, FITTING_TAGS - 1)
+                               : argument_count(maker, fitting);
+        level->low = fitting ? level->parts : below(maker, LOW_BYTE_MOST + 1);
+        return;
+    case KIND_MATCH:
+        level->low = fitting ? (size_t)FITTING_TAGS
+                             : free_count(maker, ARMS_MOST);
+        level->parts = level->low + 1;
+        return;
+    default:
+        level->low = fitting ? level->place.type
+                             : argument_count(maker, fitting);
+        level->parts = 1;
+        return;
+    }
+}
+
+static struct level choose_level(struct maker *maker,
+                                 const struct levels *levels,
+                                 struct place place)
+{
+    struct level level = { .place = place };
+
+    level.kind = levels->fitting ? fitting_kind(maker, place.type)
+                                 : free_kind(maker);
+    choose_parts(maker, levels->fitting, &level);
+    level.let_type = some_type(maker);
+    level.inner = levels->last ? level.parts - 1 : below(maker, level.parts);
+    return level;
+}
+
+static size_t type_of_part(const struct level *level, size_t part)
+{
+    if (level->kind == KIND_CALL && part == 0)
+        return level->low;
+    if (level->kind == KIND_LET && part == 0)
+        return level->let_type;
+    if (part > 0 && (level->kind == KIND_LET || level->kind == KIND_MATCH))
+        return level->place.type;
+    return DATA;
+}
+
+static void put_arm_words(struct maker *maker, const struct levels *levels,
+                          size_t arm)
+{
+    size_t tag = levels->fitting ? arm : below(maker, FITTING_TAGS);
+    size_t arity = levels->fitting ? arm : below(maker, SECOND_WORD_MOST + 1);
+
+    put_two(maker->sink, KIND_ARM, tag, arity);
+    bind_variables(maker, DATA, arity);
+}
+
+/* Writes what stands before a part and binds what is bound in it. */
+static void enter_part(struct maker *maker, const struct levels *levels,
+                       const struct level *level, size_t part)
+{
+    switch (level->kind) {
+    case KIND_FUNCTION:
+    case KIND_RECURSIVE:
+        bind_variables(maker, level->low, level->kind == KIND_RECURSIVE);
+        bind_variables(maker, DATA, level->low);
+        return;
+    case KIND_LET:
+        bind_variables(maker, level->let_type, part);
+        return;
+    case KIND_MATCH:
+        if (part > 0)
+            put_arm_words(maker, levels, part - 1);
+        return;
+    default:
+        return;
+    }
+}
+
+void put_beside(struct maker *maker, const struct levels *levels,
+                struct place place)
+{
+    struct spot spot = { from_to(maker, 1, levels->beside_most), place.depth };
+
+    if (levels->fitting)
+        put_fitting(maker, place.type, spot);
+    else
+        put_free(maker, spot);
+}
+
+void put_levels(struct maker *maker, const struct levels *levels,
+                struct place place, size_t count)
+{
+    if (count == 0) {
+        levels->put_ending(maker, levels, place);
+        return;
+    }
+    size_t outside = maker->bound;
+    struct level level = choose_level(maker, levels, place);
+
+    put_kind(maker->sink, level.kind, level.low);
+    if (level.kind == KIND_CONSTRUCTOR)
+        put_word(maker->sink, (uint16_t)level.parts);
+    for (size_t i = 0; i < level.parts; i++) {
+        struct place part = { type_of_part(&level, i), place.depth + 1 };
+
+        enter_part(maker, levels, &level, i);
+        if (i == level.inner)
+            put_levels(maker, levels, part, count - 1);
+        else
+            put_beside(maker, levels, part);
+        maker->bound = outside;
+    }
+}

@@ -1,0 +1,99 @@
+#include "fuzz_wide.h"
+
+#include "gen_record.h"
+
+enum {
+    WIDE_ARGUMENTS_LEAST = ARGUMENTS_MOST - 1,
+    TOO_MANY_ARGUMENTS = ARGUMENTS_MOST + 1,
+    WIDE_ARMS_LEAST = ARMS_MOST - 2,
+    TOO_MANY_ARMS = ARMS_MOST + 1
+};
+
+/* One in so many is too wide; there are thirty arms and one is enough. */
+enum { TOO_WIDE_ODDS = 6, TOO_WIDE_ARM_ODDS = 150, RECURSIVE_ODDS = 3 };
+
+static size_t wide_count(struct maker *maker, size_t too_wide_odds)
+{
+    return one_in(maker, too_wide_odds)
+               ? (size_t)TOO_MANY_ARGUMENTS
+               : from_to(maker, WIDE_ARGUMENTS_LEAST, ARGUMENTS_MOST);
+}
+
+static void put_data(struct maker *maker, const struct levels *levels,
+                     size_t depth, size_t times)
+{
+    for (; times > 0; times--)
+        put_beside(maker, levels, (struct place){ DATA, depth });
+}
+
+static void put_wide_call(struct maker *maker, const struct levels *levels,
+                          size_t depth)
+{
+    size_t arguments = wide_count(maker, TOO_WIDE_ODDS);
+
+    put_kind(maker->sink, KIND_CALL, arguments);
+    put_beside(maker, levels, (struct place){ arguments, depth + 1 });
+    put_data(maker, levels, depth + 1, arguments);
+}
+
+static void put_wide_function(struct maker *maker, const struct levels *levels,
+                              size_t depth)
+{
+    size_t outside = maker->bound;
+    size_t arguments = wide_count(maker, TOO_WIDE_ODDS);
+    bool recursive = one_in(maker, RECURSIVE_ODDS);
+
+    put_kind(maker->sink, recursive ? KIND_RECURSIVE : KIND_FUNCTION,
+             arguments);
+    bind_variables(maker, arguments, recursive);
+    bind_variables(maker, DATA, arguments);
+    put_data(maker, levels, depth + 1, 1);
+    maker->bound = outside;
+}
+
+static void put_wide_constructor(struct maker *maker,
+                                 const struct levels *levels, size_t depth)
+{
+    size_t tag = below(maker, LOW_BYTE_MOST + 1);
+    size_t arguments = wide_count(maker, TOO_WIDE_ODDS);
+
+    put_two(maker->sink, KIND_CONSTRUCTOR, tag, arguments);
+    put_data(maker, levels, depth + 1, arguments);
+}
+
+/* Each arm's tag is its place; one of them is made to fit the subject. */
+static void put_wide_match(struct maker *maker, const struct levels *levels,
+                           size_t depth)
+{
+    size_t outside = maker->bound;
+    size_t arms = one_in(maker, TOO_WIDE_ODDS)
+                      ? (size_t)TOO_MANY_ARMS
+                      : from_to(maker, WIDE_ARMS_LEAST, ARMS_MOST);
+    size_t tag = below(maker, arms);
+    size_t arguments = wide_count(maker, TOO_WIDE_ARM_ODDS);
+
+    put_kind(maker->sink, KIND_MATCH, arms);
+    put_two(maker->sink, KIND_CONSTRUCTOR, tag, arguments);
+    put_data(maker, levels, depth + 2, arguments);
+    for (size_t i = 0; i < arms; i++) {
+        size_t arity = i == tag ? arguments
+                                : wide_count(maker, TOO_WIDE_ARM_ODDS);
+
+        put_two(maker->sink, KIND_ARM, i, arity);
+        bind_variables(maker, DATA, arity);
+        put_data(maker, levels, depth + 1, 1);
+        maker->bound = outside;
+    }
+}
+
+void put_wide_term(struct maker *maker, const struct levels *levels,
+                   struct place place)
+{
+    static void (*const choices[])(struct maker *, const struct levels *,
+                                   size_t depth) = {
+        put_wide_call, put_wide_function, put_wide_constructor, put_wide_match
+    };
+
+    choices[below(maker, sizeof choices / sizeof choices[0])](maker, levels,
+                                                              place.depth);
+}

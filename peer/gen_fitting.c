@@ -1,0 +1,143 @@
+#include "gen_fitting.h"
+
+#include "gen_record.h"
+
+enum { EXTRA_ARMS_MOST = 2 };
+
+/* One in so many is the rarer choice. */
+enum { FITTING_RECURSIVE_ODDS = 4, DATA_ODDS = 2, NEW_TAG_ODDS = 2 };
+
+enum fitting_choice {
+    CHOOSE_LET,
+    CHOOSE_MATCH,
+    CHOOSE_CONSTRUCTOR,
+    CHOOSE_CALL,
+    CHOOSE_CALL_TOO,
+    FITTING_CHOICES
+};
+
+/* The number of nameable variables where there is none of that type. */
+static size_t variable_of_type(struct maker *maker, size_t type)
+{
+    size_t names = nameable(maker);
+    size_t start = names > 0 ? below(maker, names) : 0;
+
+    for (size_t i = 0; i < names; i++) {
+        size_t index = (start + i) % names;
+
+        if (maker->types[maker->bound - 1 - index] == type)
+            return index;
+    }
+    return names;
+}
+
+static void put_fitting_leaf(struct maker *maker, size_t type)
+{
+    size_t index = variable_of_type(maker, type);
+
+    if (index < nameable(maker)) {
+        put_kind(maker->sink, KIND_VARIABLE, index);
+        return;
+    }
+    if (type != DATA)
+        put_kind(maker->sink, KIND_FUNCTION, type);
+    put_leaf(maker->sink);
+}
+
+size_t some_type(struct maker *maker)
+{
+    return one_in(maker, DATA_ODDS) ? (size_t)DATA
+                                    : from_to(maker, 1, FITTING_ARGUMENTS_MOST);
+}
+
+static void put_fitting_function(struct maker *maker, size_t type,
+                                 struct spot spot)
+{
+    size_t outside = maker->bound;
+    bool recursive = one_in(maker, FITTING_RECURSIVE_ODDS);
+
+    put_kind(maker->sink, recursive ? KIND_RECURSIVE : KIND_FUNCTION, type);
+    bind_variables(maker, type, recursive ? 1 : 0);
+    bind_variables(maker, DATA, type);
+    put_fitting(maker, DATA, part_of(spot, 1));
+    maker->bound = outside;
+}
+
+static void put_fitting_call(struct maker *maker, struct spot spot)
+{
+    size_t arguments = from_to(maker, 1, FITTING_ARGUMENTS_MOST);
+
+    put_kind(maker->sink, KIND_CALL, arguments);
+    put_fitting(maker, arguments, part_of(spot, arguments + 1));
+    for (size_t i = 0; i < arguments; i++)
+        put_fitting(maker, DATA, part_of(spot, arguments + 1));
+}
+
+static void put_fitting_constructor(struct maker *maker, struct spot spot)
+{
+    size_t tag = below(maker, FITTING_TAGS);
+
+    put_two(maker->sink, KIND_CONSTRUCTOR, tag, tag);
+    for (size_t i = 0; i < tag; i++)
+        put_fitting(maker, DATA, part_of(spot, tag));
+}
+
+static void put_fitting_let(struct maker *maker, size_t type, struct spot spot)
+{
+    size_t bound_type = some_type(maker);
+
+    put_kind(maker->sink, KIND_LET, 0);
+    put_fitting(maker, bound_type, part_of(spot, 2));
+    bind_variables(maker, bound_type, 1);
+    put_fitting(maker, type, part_of(spot, 2));
+    maker->bound--;
+}
+
+/* An arm for every tag, then perhaps arms that are never taken. */
+static void put_fitting_match(struct maker *maker, size_t type,
+                              struct spot spot)
+{
+    size_t arms = FITTING_TAGS + below(maker, EXTRA_ARMS_MOST + 1);
+    size_t outside = maker->bound;
+
+    put_kind(maker->sink, KIND_MATCH, arms);
+    put_fitting(maker, DATA, part_of(spot, arms + 1));
+    for (size_t tag = 0; tag < arms; tag++) {
+        bool taken = tag < FITTING_TAGS;
+        size_t arity = taken ? tag : below(maker, SECOND_WORD_MOST + 1);
+        bool own_tag = taken || one_in(maker, NEW_TAG_ODDS);
+
+        put_two(maker->sink, KIND_ARM, own_tag ? tag : 0, arity);
+        bind_variables(maker, DATA, arity);
+        put_fitting(maker, type, part_of(spot, arms + 1));
+        maker->bound = outside;
+    }
+}
+
+void put_fitting(struct maker *maker, size_t type, struct spot spot)
+{
+    if (is_leaf_spot(maker, spot)) {
+        put_fitting_leaf(maker, type);
+        return;
+    }
+    switch (below(maker, FITTING_CHOICES)) {
+    case CHOOSE_LET:
+        put_fitting_let(maker, type, spot);
+        return;
+    case CHOOSE_MATCH:
+        put_fitting_match(maker, type, spot);
+        return;
+    case CHOOSE_CONSTRUCTOR:
+        if (type == DATA) {
+            put_fitting_constructor(maker, spot);
+            return;
+        }
+        break;
+    default:
+        break;
+    }
+    if (type == DATA)
+        put_fitting_call(maker, spot);
+    else
+        put_fitting_function(maker, type, spot);
+}

@@ -1,0 +1,59 @@
+#include "maker.h"
+
+#include <assert.h>
+
+enum { FIRST_SHIFT = 13, SECOND_SHIFT = 17, THIRD_SHIFT = 5 };
+
+struct maker maker_into(struct word_sink *sink, uint32_t state)
+{
+    return (struct maker){ .sink = sink,
+                           .state = state,
+                           .leaf_depth = LEAF_DEPTH };
+}
+
+uint32_t next_random(struct maker *maker)
+{
+    maker->state ^= maker->state << FIRST_SHIFT;
+    maker->state ^= maker->state >> SECOND_SHIFT;
+    maker->state ^= maker->state << THIRD_SHIFT;
+    return maker->state;
+}
+
+size_t below(struct maker *maker, size_t count)
+{
+    return next_random(maker) % count;
+}
+
+size_t from_to(struct maker *maker, size_t least, size_t most)
+{
+    return least + below(maker, most - least + 1);
+}
+
+bool one_in(struct maker *maker, size_t count)
+{
+    return below(maker, count) == 0;
+}
+
+struct spot part_of(struct spot spot, size_t parts)
+{
+    return (struct spot){ (spot.target - 1) / parts, spot.depth + 1 };
+}
+
+bool is_leaf_spot(const struct maker *maker, struct spot spot)
+{
+    return spot.target < TARGET_LEAST || spot.depth >= maker->leaf_depth;
+}
+
+void bind_variables(struct maker *maker, size_t type, size_t times)
+{
+    assert(maker->bound + times <= VARIABLES_MOST);
+    for (; times > 0; times--)
+        maker->types[maker->bound++] = (uint8_t)type;
+}
+
+size_t nameable(const struct maker *maker)
+{
+    const size_t names = LOW_BYTE_MOST + 1;
+
+    return maker->bound < names ? maker->bound : names;
+}
