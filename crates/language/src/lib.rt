@@ -3,10 +3,10 @@ ghost use mathlib.Core.Path.{_≡_};
 ghost use Rattle.language.specs.Kinds.{rowOf, headOf};
 
 // The most arguments of a function, a call, a constructor or an arm.
-pub const MOST_ARGUMENTS: u16 = 8;
+pub const MOST_ARGUMENTS: u8 = 8;
 
 // The most arms of a match.
-pub const MOST_ARMS: u16 = 32;
+pub const MOST_ARMS: u8 = 32;
 
 // The levels of terms that a rule may have.
 pub const DEEPEST: usize = 64;
@@ -63,16 +63,16 @@ pub enum Parts {
 // arguments (a recursive function's name, the let's value); what follows it.
 pub struct Row {
     pub stands: u8,
-    pub low: u16,
-    pub high: u16,
-    pub binds: usize,
+    pub low: u8,
+    pub high: u8,
+    pub binds: u8,
     pub parts: Parts,
 }
 
 // One row for each kind from 0 to 9. A higher kind opens nothing, as kind 0 does.
 const KINDS_COUNT: usize = 10;
 
-const MOST_BYTE: u16 = 255;
+const MOST_BYTE: u8 = 255;
 
 const KINDS: [Row; KINDS_COUNT] = [
     Row {
@@ -175,7 +175,7 @@ pub fn look(q: u8, w: u16) -> Head
     ensures { λ r. ⌜ r ≡ headOf q w ⌝ }
 {
     let row = row_of(w);
-    let low = w % 256;
+    let low = (w % 256) as u8;
     if row.stands != q {
         return Head::Refused(WRONG_KIND);
     }

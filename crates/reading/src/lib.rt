@@ -116,7 +116,7 @@ fn second_at(s: &[u16], at: usize) -> Count
         return Count::Not(language::NONE_LEFT, at);
     }
     let m = s[at];
-    if language::MOST_ARGUMENTS < m {
+    if (language::MOST_ARGUMENTS as u16) < m {
         return Count::Not(language::OUT_OF_RANGE, at);
     }
     Count::Is(m, at + 1)
@@ -159,7 +159,7 @@ fn opened_at(s: &[u16], at: usize, left: usize, bound: usize, low: usize, row: R
     ensures { λ r. ⌜ r ≡ termStep (opened (now (s .entry)) (term (now (s .entry)) left) bound at low (row .binds) (row .parts)) ⌝ }
 {
     let next = at + 1;
-    let binds = row.binds;
+    let binds = row.binds as usize;
     let parts = row.parts;
     match parts {
         Parts::Nothing => {

@@ -8,6 +8,9 @@ use Rattle.language.proofs.look.Tie as tie
 row-of-requires : tie.Need-row-of-requires
 row-of-requires c κs = search needs
 
+cast-low : tie.Need-cast-low
+cast-low c = search needs
+
 returns : tie.Need-returns
 returns c = search ways
 
@@ -21,4 +24,4 @@ returns-4 : tie.Need-returns-4
 returns-4 c = search ways
 
 pub look-spec : {M : Type 1} → statement M
-look-spec = tie.close (tie.spec row-of-requires returns returns-2 returns-3 returns-4)
+look-spec = tie.close (tie.spec row-of-requires cast-low returns returns-2 returns-3 returns-4)

@@ -111,7 +111,7 @@ pub +arms-at+opened-at+term-at+terms-at-spec : {M : Type 1} → statement M
     (λ c κs. search ways) (λ c. search ways) (λ c. search ways) (λ c. search ways) (λ c κs. search ways)
     (λ c κs. search ways) (λ c. search ways) (λ c. search ways) (λ c. search ways))
     (λ t. opened-at-lts.spec (opened-at-calls t) (opened-at-at t) opened-at.Post
-    (λ c. search ways) (λ c. search ways) (λ c. search ways) (λ c. search ways) (λ c. search ways) (λ c κs. search ways)
+    (λ c. search ways) (λ c. search ways) (λ c. search ways) (λ c. search ways) (λ c. search ways) (λ c. search ways) (λ c κs. search ways)
     (λ c κs. search ways) (λ c. search ways) (λ c κs. search ways) (λ c. search ways) (λ c. search ways)
     (λ c κs. search ways) (λ c κs. search ways) (λ c. search ways) (λ c κs. search ways) (λ c. search ways)
     (λ c. search ways) (λ c. search ways) (λ c κs. search ways) (λ c κs. search ways) (λ c. search ways)
