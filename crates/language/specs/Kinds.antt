@@ -41,6 +41,7 @@ row s l h b p = record { stands = s; low = l; high = h; binds = b; parts = p }
 abbrev pub noRow : Row
 noRow = row nowhere 0 0 0 Nothing
 
+-- kinds 0 to 9 in order: none, variable, function, recursive function, call, let, constructor, match, arm, continuation variable
 abbrev pub kinds : List Row
 kinds =
     noRow

@@ -55,7 +55,8 @@ armsOf s p n (suc k) at =
     (arm (w % 256) m b) (armsOf s p n k past)))))
 
 -- the term whose head, at a place, has the low byte a and these parts, and whose body has o source variables besides its arguments; it
--- stands under n source variables, and p reads a part under so many. 7: "variable index not below the number of source variables bound there"
+-- stands under n source variables, and p reads a part under so many. 7: "variable index not below the number of source variables bound there".
+-- An arm's parts are no term's: `headOf` refuses such a head before.
 unfoldable pub opened : List ℕ → (ℕ → ℕ → Got Term) → ℕ → ℕ → ℕ → ℕ → Parts → Got Term
 opened s p n at a o Nothing = cond (ltb a n) (found (var a) (at + 1)) (fault 7 at)
 opened s p n at a o Body = made (fun o a) (p (n + a + o) (at + 1))
