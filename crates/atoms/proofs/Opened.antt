@@ -1,13 +1,13 @@
--- What the table says of the first word of a term that stands somewhere: it opens a row, and the row's parts are the term's. One law goes from
--- a kind and a low byte to the row; the terms are then told apart by the parts of their rows.
+-- What the table says of the first word of a term that stands somewhere: it opens a row, and the row's parts are the term's. The terms
+-- are then told apart by the parts of their rows.
 -- Assumes nothing.
-use Prim.Native.Nat.{ℕ, zero, suc, _+_, _/_, _%_, _≤_}
+use Prim.Native.Nat.{ℕ, zero, suc, _+_, _≤_}
 use mathlib.Core.Path.{_≡_, refl, ap, subst, _∙_}
 use mathlib.Core.List.{List}
 use native.Mathlib.Omega.{arith}
 use lib.ListN.{getD}
 use Rattle.language.specs.Term.{rules, Term, Terms, Arms, var, fun, call, bind, con, cases, size, sizeᵃ}
-use Rattle.language.specs.Kinds.{mostArguments, mostArms, mostByte, atTerm, row, noRow, kinds, rowOf, headOf}
+use Rattle.language.specs.Kinds.{mostArguments, mostArms, mostByte, atTerm, row, noRow, kinds, headOf}
 use Rattle.language.specs.Words.{head, words}
 use Rattle.language.specs.Limits.{Ranged, Rangedᵗ, Rangedᵃ, r-var, r-kvar, r-fun, r-call, r-bind, r-con, r-cases}
 use Rattle.language.specs.Places.{Held}
@@ -16,7 +16,7 @@ use Rattle.language.specs.declared.Parts.the-variants.{Nothing, Body, FunctionA
 use Rattle.language.specs.declared.Row.{Row}
 use Rattle.language.specs.declared.Head.{Head}
 use Rattle.language.specs.declared.Head.the-variants.{Refused, Opens}
-use Rattle.language.proofs.Heads.{opens}
+use Rattle.language.proofs.Heads.{head-opens}
 use Rattle.language.proofs.Places.{first-word}
 use Rattle.atoms.specs.Standing.{Parted}
 
@@ -41,11 +41,7 @@ rowFor k = getD kinds k noRow
 -- a head word of the kind k and the low byte n opens the row of its kind, if that stands at a term and n is within its range
 by-kind : (k n : ℕ) {w : ℕ} {t : Term} → w ≡ head k n → n ≤ mostByte → rowFor k .stands ≡ atTerm → rowFor k .low ≤ n → n ≤ rowFor k .high
     → Opened (rowFor k .parts) t → Looked w t
-unfolding rowOf
-by-kind k n {w} e h s l m v =
-    let d : k ≡ w / 256 = omega arith in
-    let q : w % 256 ≡ n = omega arith in
-    record { row = rowFor k; opens = opens atTerm w (ap rowFor d) s (omega arith) (omega arith); view = v }
+by-kind k n {w} e h s l m v = record { row = rowFor k; opens = head-opens atTerm w k n e h refl s l m; view = v }
 
 looked : {t : Term} {s : List ℕ} {at to : ℕ} → Ranged rules t → Held s (words rules t) at to → Looked (getD s at 0) t
 unfolding words

@@ -1,34 +1,29 @@
 -- The promises of specs/Promises.antt. `rules` determines the answer and the output, and no two numbers mean one answer: each number is found again
 -- from what it means.
 -- Assumes nothing.
-use Prim.Native.Nat.{ℕ, _+_, _-_, _<_, _≤_}
+use Prim.Native.Nat.{ℕ, _+_, _-_, _≤_}
 use mathlib.Core.Path.{_≡_, refl, sym, ap, _∙_, subst}
 use mathlib.Core.Bool.{Bool, true, false, cond}
 use mathlib.Core.List.{List}
 use native.Mathlib.Omega.{arith}
 use lib.Dec.{ltb, eqb}
-use borrow.Author.Tests.{ltb-true, ltb-false, eqb-true, eqb-false}
-use Rattle.language.specs.Read.{read}
-use Rattle.language.specs.Calls.{Reply, Outcome, success, refusal, replyOf, told, checked}
+use borrow.Author.Tests.{ltb-false, eqb-true}
+use Rattle.language.specs.Calls.{Reply, Outcome, refusal, replyOf, told}
 use Rattle.language.specs.declared.Answer.{Answer}
 use Rattle.language.specs.declared.Answer.the-variants.{Count, Refusal}
+use Rattle.language.proofs.Clash.{never}
 use Rattle.reading.specs.Answers.{checkedReply}
 use Rattle.reading.specs.declared.Checked.{Checked}
 use Rattle.reading.specs.declared.Checked.the-variants as checking
 use Rattle.files.specs.declared.Form.{Form}
-use Rattle.rules.specs.Contracts.{Call, Allows}
+use Rattle.rules.specs.Contracts.{Call}
 use Rattle.rules.proofs.Promises.{determined}
-use Rattle.face.specs.Numbers.{refusals, answerOf, checkedOf, formOf, noForm}
-use Rattle.face.specs.Calls.{Asked, check, measure, write, pack, unpack, Formed, formed, formless, Means}
+use Rattle.face.specs.Numbers.{refusals, answerOf, checkedOf}
+use Rattle.face.specs.Calls.{check, measure, write, pack, unpack, Formed, formed, formless}
 use Rattle.face.specs.Promises.{NumberDetermined, lastRefusal, NumbersRange}
 use Rattle.face.specs.declared.Told.{Told}
-use Rattle.face.specs.declared.Told.the-variants.{Is, NoForm}
-use Rattle.face.proofs.Faults.{Listed}
 use Rattle.face.proofs.Replies as replies
 use Rattle.face.proofs.Replies.{Fair, Any, succeeds, refused-as, Counted, checked-fair, measured-fair, written-counted, packing-counted, unpacking-counted}
-
-never : {C : Type 0} → _≡_ {A = ℕ} 0 1 → C
-never z = absurd (omega arith)
 
 -- the number of an answer, and of a check's
 number : Answer → ℕ

@@ -2,22 +2,22 @@
 -- for each of its rule's, and a file is as long as its words ask.
 -- Assumes nothing.
 use Prim.Native.Nat.{ℕ, _+_, _*_, _<_, _≤_}
-use mathlib.Core.Path.{_≡_, refl, ap}
+use mathlib.Core.Path.{_≡_, refl}
 use mathlib.Core.Bool.{Bool, true, false, cond}
 use mathlib.Core.List.{List}
 use native.Mathlib.Omega.{arith}
 use lib.Dec.{ltb, eqb}
 use lib.ListN.{length}
 use borrow.Author.Tests.{ltb-false}
-use Rattle.language.specs.Term.{rules, images, Term}
+use Rattle.language.specs.Term.{images, Term}
 use Rattle.language.specs.Words.{words}
-use Rattle.language.specs.Limits.{mostWords, mostImageWords, Rule}
+use Rattle.language.specs.Limits.{mostImageWords}
 use Rattle.language.specs.Image.{image}
-use Rattle.language.specs.Read.{Reading, accepted, refused, read}
-use Rattle.language.specs.Calls.{Reply, Outcome, success, refusal, replyOf, checked, measured, filled, written}
+use Rattle.language.specs.Read.{Reading, accepted, read}
+use Rattle.language.specs.Calls.{Reply, Outcome, success, refusal, checked, measured, filled, written}
 use Rattle.sizes.proofs.Promises.{seven-times}
 use Rattle.trust.proofs.Accepted.{accepted-rule}
-use Rattle.files.specs.Files.{most, headerBytes, wordAt, packed, wordsAt, refuses, marked, packing, unpacking}
+use Rattle.files.specs.Files.{most, version, headerBytes, wordAt, packed, wordsAt, refuses, marked, packing, unpacking}
 use Rattle.files.specs.declared.Form.{Form}
 use Rattle.files.specs.declared.Form.the-variants.{Rules, Images}
 use Rattle.files.proofs.Calls.{packed-length, wordsAt-length}
@@ -96,7 +96,7 @@ pub unpacking-counted : (f : Form) (bs out : List ℕ) → Counted (unpacking f 
 unfolding unpacking
 unpacking-counted f bs out =
     test-counted (marked f bs)
-    (λ a. test-counted (eqb (wordAt bs 3) 1)
+    (λ a. test-counted (eqb (wordAt bs 3) version)
     (λ b. test-counted (eqb (length bs) (headerBytes + 2 * wordAt bs 5))
     (λ c. test-counted (eqb (wordAt bs 5) 0) (λ x. refuses-counted 1 out (omega arith) (omega arith))
     (λ x. test-counted (ltb (most f) (wordAt bs 5)) (λ y. refuses-counted 2 out (omega arith) (omega arith))

@@ -1,6 +1,6 @@
 -- The ways out of the face's calls, in the words of the code: one law for each.
 -- Assumes nothing.
-use Prim.Native.Nat.{ℕ, zero, suc, _+_, _<_, _≤_}
+use Prim.Native.Nat.{ℕ, zero, suc, _+_, _<_}
 use mathlib.Core.Path.{_≡_, refl, sym, ap, _∙_}
 use mathlib.Core.List.{List}
 use native.Mathlib.Omega.{arith}
@@ -9,9 +9,10 @@ use mir.Val.{Fits}
 use borrow.Author.Needs.{needs}
 use borrow.Author.Tests.{lt-ltb, le-ltb, ne-eqb}
 use Rattle.language.specs.Read.{read}
-use Rattle.language.specs.Calls.{Reply, Outcome, success, refusal, replyOf, told, checked}
+use Rattle.language.specs.Calls.{Reply, Outcome, replyOf, told, checked}
 use Rattle.language.specs.declared.Answer.{Answer}
 use Rattle.language.specs.declared.Answer.the-variants.{Count, Refusal}
+use Rattle.language.proofs.Clash.{never}
 use Rattle.reading.specs.Answers.{checkedReply}
 use Rattle.reading.specs.declared.Checked.{Checked}
 use Rattle.reading.specs.declared.Checked.the-variants as checking
@@ -23,9 +24,6 @@ use Rattle.face.specs.declared.Told.{Told}
 use Rattle.face.specs.declared.Told.the-variants.{Is, NoForm}
 use Rattle.face.proofs.Replies as replies
 use Rattle.face.proofs.Replies.{Fair, succeeds, refused-as, Counted, measured-fair, written-counted, packing-counted, unpacking-counted}
-
-never : {C : Type 0} → _≡_ {A = ℕ} 0 1 → C
-never z = absurd (omega arith)
 
 -- the forms' numbers
 pub f-rules : {n : ℕ} → n ≡ 0 → Is Rules ≡ formOf n

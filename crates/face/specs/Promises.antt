@@ -1,5 +1,5 @@
 -- What a program in C may rely on, of whatever outcome the contracts allow.
-use Prim.Native.Nat.{ℕ, _+_, _<_, _≤_}
+use Prim.Native.Nat.{ℕ, _+_, _≤_}
 use mathlib.Core.Path.{_≡_}
 use Rattle.face.specs.Numbers.{refusals}
 use Rattle.face.specs.Calls.{Asked, Returned, check, measure, write, pack, unpack, Means}

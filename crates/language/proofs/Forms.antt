@@ -1,12 +1,12 @@
 -- The passing form of an atom, and of a constructor that is none: document 01's two cases for a constructor, each as an equation. The carried
--- forms of a list are as many as its terms, and the arms of a match stay as many.
+-- forms of a list are as many as its terms, the variables that a chain's end names are as many as it says, and the arms of a match stay as many.
 -- Assumes nothing.
-use Prim.Native.Nat.{ℕ, suc}
+use Prim.Native.Nat.{ℕ, zero, suc}
 use mathlib.Core.Path.{_≡_, refl, ap}
 use mathlib.Core.Bool.{true, false, false≢true}
 use Rattle.language.specs.Term.{Term, Terms, Arms, var, kvar, fun, call, bind, con, cases, nil, cons, none, arm, size, sizeᵃ}
 use Rattle.language.specs.Run.{atom, atoms}
-use Rattle.language.specs.Image.{lam, to, making, passing, carried, carrieds, chain, passingᵃ}
+use Rattle.language.specs.Image.{lam, to, downto, making, passing, carried, carrieds, chain, passingᵃ}
 
 -- "Atom: 0201 0401 0900, then its carried form."
 pub passing-atom : (t : Term) → atom t ≡ true → passing t ≡ lam (to (kvar 0) (carried t))
@@ -29,6 +29,12 @@ pub size-carrieds : (ts : Terms) → size (carrieds ts) ≡ size ts
 unfolding size carrieds
 size-carrieds nil = refl
 size-carrieds (cons t ts) = ap suc (size-carrieds ts)
+
+-- "0900+(n−1) … 0900" are n
+pub size-downto : (n : ℕ) → size (downto n) ≡ n
+unfolding downto size
+size-downto zero = refl
+size-downto (suc n) = ap suc (size-downto n)
 
 -- a match's passing form has as many arms
 pub size-passingᵃ : (ps : Arms) → sizeᵃ (passingᵃ ps) ≡ sizeᵃ ps

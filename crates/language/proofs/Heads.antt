@@ -1,9 +1,13 @@
--- The ways out of a head's tests, in the words of the code: one law for each.
+-- The ways out of a head's tests, in the words of the code: one law for each. At the end, the way of a head that is given by its kind and its low
+-- byte.
 -- Assumes nothing.
-use Prim.Native.Nat.{ℕ, _%_, _<_, _≤_}
+use Prim.Native.Nat.{ℕ, _/_, _%_, _<_, _≤_}
 use mathlib.Core.Path.{_≡_, ap, _∙_}
+use native.Mathlib.Omega.{arith}
+use lib.ListN.{getD}
 use borrow.Author.Tests.{lt-ltb, le-ltb, eq-eqb, ne-eqb}
-use Rattle.language.specs.Kinds.{tested, rowOf, headOf}
+use Rattle.language.specs.Kinds.{mostByte, noRow, kinds, tested, rowOf, headOf}
+use Rattle.language.specs.Words.{head}
 use Rattle.language.specs.declared.Row.{Row}
 use Rattle.language.specs.declared.Head.{Head}
 use Rattle.language.specs.declared.Head.the-variants.{Refused, Opens}
@@ -30,3 +34,15 @@ module _ (q w : ℕ) {r : Row} (e : r ≡ rowOf w) where
   opens s l h = of-row (simp (eq-eqb _ _ s, le-ltb _ _ l, le-ltb _ _ h))
 
 pub ruleset ways = (wrong-kind, too-low, too-high, opens)
+
+-- the row of the kind k, where a head of that kind stands
+of-kind : (w k a : ℕ) {r : Row} → w ≡ head k a → a ≤ mostByte → getD kinds k noRow ≡ r → r ≡ rowOf w
+unfolding rowOf
+of-kind w k a e l q = let d : w / 256 ≡ k = omega arith in rw (d, q)
+
+-- a head of the kind k whose low byte is in its range opens its row
+pub head-opens : (q w k a : ℕ) {r : Row} → w ≡ head k a → a ≤ mostByte → getD kinds k noRow ≡ r → r .stands ≡ q → r .low ≤ a → a ≤ r .high
+    → Opens r ≡ headOf q w
+head-opens q w k a {r} e l i s lo hi =
+    let m : w % 256 ≡ a = omega arith in
+    opens q w (of-kind w k a e l i) s (rw m lo) (rw m hi)

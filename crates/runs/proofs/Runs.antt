@@ -11,6 +11,7 @@ use lib.Seq.{sets, length-sets}
 use Rattle.language.specs.Term.{images, size}
 use Rattle.language.specs.Words.{head, words, wordsᵗ}
 use Rattle.language.specs.Image.{downto, calling, making}
+use Rattle.language.proofs.Forms.{size-downto}
 use Rattle.language.proofs.Stores.{sets-append}
 use Rattle.runs.specs.Runs.{Room, Put}
 
@@ -45,11 +46,6 @@ downs-more : (n : ℕ) → (n ≡ 0 → ⊥) → wordsᵗ images (downto n) ≡ 
 unfolding words downto
 downs-more zero z = absurd (z refl)
 downs-more (suc n) z = rw sub-one
-
-size-downto : (n : ℕ) → size (downto n) ≡ n
-unfolding size downto
-size-downto zero = refl
-size-downto (suc n) = ap suc (size-downto n)
 
 calling-words : (n : ℕ) → 0x0201 ∷ words images (calling n)
     ≡ (0x0201 ∷ (0x0400 + n + 1) ∷ []) ++ ((head 9 n ∷ head 9 (n + 1) ∷ []) ++ wordsᵗ images (downto n))

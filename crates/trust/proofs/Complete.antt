@@ -1,7 +1,7 @@
 -- The words of every rule are accepted, with that term. By induction on the term: where its words stand, under at least its variables' number
 -- and with at least its depth left, the readers find it and the place after it.
 -- Assumes nothing.
-use Prim.Native.Nat.{ℕ, zero, suc, _+_, _-_, _/_, _%_, _<_, _≤_}
+use Prim.Native.Nat.{ℕ, zero, suc, _+_, _-_, _%_, _<_, _≤_}
 use mathlib.Core.Path.{_≡_, refl, sym, ap, _∙_}
 use mathlib.Core.List.{List}
 use native.Mathlib.Omega.{arith}
@@ -9,7 +9,7 @@ use native.Mathlib.Numerals.{add-one, sub-one}
 use lib.ListN.{length, getD}
 use borrow.Author.Tests.{lt-ltb, le-ltb, le-leb, ne-eqb}
 use Rattle.language.specs.Term.{rules, Term, Terms, Arms, var, kvar, fun, call, bind, con, cases, nil, cons, none, arm, size, sizeᵃ}
-use Rattle.language.specs.Kinds.{mostArguments, mostByte, atTerm, atArm, row, noRow, kinds, rowOf, headOf}
+use Rattle.language.specs.Kinds.{mostArguments, mostByte, atTerm, atArm, row, noRow, kinds}
 use Rattle.language.specs.Words.{head, words, wordsᵗ, wordsᵃ}
 use Rattle.language.specs.Scope.{Scoped, Scopedᵗ, Scopedᵃ, s-var, s-fun, s-call, s-bind, s-con, s-cases, s-nil, s-cons, s-none, s-arm}
 use Rattle.language.specs.Limits.{deepest, mostWords, Ranged, Rangedᵗ, Rangedᵃ, r-var, r-kvar, r-fun, r-call, r-bind, r-con, r-cases, r-nil, r-cons, r-none, r-arm, depth, depthᵗ, depthᵃ}
@@ -17,8 +17,7 @@ use Rattle.language.specs.Places.{Held}
 use Rattle.language.specs.Read.{Got, found, then, made, second, many, armsOf, opened, term, read}
 use Rattle.language.specs.declared.Parts.the-variants.{Nothing, Body, FunctionAndArguments, BoundAndBody, CountAndArguments, SubjectAndArms}
 use Rattle.language.specs.declared.Row.{Row}
-use Rattle.language.specs.declared.Head.the-variants.{Opens}
-use Rattle.language.proofs.Heads.{opens}
+use Rattle.language.proofs.Heads.{head-opens}
 use Rattle.language.proofs.Places.{whole, first-run, second-run, there, first-word, next-words}
 use Rattle.trust.specs.Promises.{RulesAreAccepted}
 
@@ -56,18 +55,6 @@ module _ (s : List ℕ) (p : ℕ → ℕ → Got Term) (n at : ℕ) where
   unfolding opened
   match-is a e k = then-is _ e (made-is _ k)
 
--- the row of the kind k, where a head of that kind stands
-of-kind : (w k a : ℕ) {r : Row} → w ≡ head k a → a ≤ mostByte → getD kinds k noRow ≡ r → r ≡ rowOf w
-unfolding rowOf
-of-kind w k a e l q = let d : w / 256 ≡ k = omega arith in rw (d, q)
-
--- a head of the kind k whose low byte is in its range opens its row
-head-opens : (q w k a : ℕ) {r : Row} → w ≡ head k a → a ≤ mostByte → getD kinds k noRow ≡ r → r .stands ≡ q → r .low ≤ a → a ≤ r .high
-    → headOf q w ≡ Opens r
-head-opens q w k a {r} e l i s lo hi =
-    let m : w % 256 ≡ a = omega arith in
-    sym (opens q w (of-kind w k a e l i) s (rw m lo) (rw m hi))
-
 -- a second word in its range
 second-is : (s : List ℕ) (at m : ℕ) → at < length s → getD s at 0 ≡ m → m ≤ mostArguments → second s at ≡ found m (at + 1)
 unfolding second
@@ -81,7 +68,7 @@ module _ (s : List ℕ) (n at : ℕ) where
   term-opens zero k a h t e l i st lo hi = absurd (omega arith)
   term-opens (suc d) k a h t e l i st lo hi =
       let m : getD s at 0 % 256 ≡ a = omega arith in
-      simp (lt-ltb at (length s) t, head-opens atTerm (getD s at 0) k a e l i st lo hi, m, sub-one)
+      simp (lt-ltb at (length s) t, sym (head-opens atTerm (getD s at 0) k a e l i st lo hi), m, sub-one)
 
   arm-is : (p : ℕ → ℕ → Got Term) (t m k : ℕ) {b : Term} {ps : Arms} {j to : ℕ} → at < length s → getD s at 0 ≡ head 8 t → t ≤ mostByte
       → second s (at + 1) ≡ found m (at + 1 + 1) → p (n + m) (at + 1 + 1) ≡ found b j → armsOf s p n k j ≡ found ps to
@@ -89,7 +76,7 @@ module _ (s : List ℕ) (n at : ℕ) where
   unfolding armsOf
   arm-is p t m k h e l c x y =
       let r : getD s at 0 % 256 ≡ t = omega arith in
-      simp (lt-ltb at (length s) h, head-opens atArm (getD s at 0) 8 t e l refl refl (omega arith) l, r)
+      simp (lt-ltb at (length s) h, sym (head-opens atArm (getD s at 0) 8 t e l refl refl (omega arith) l), r)
       (then-is _ c (then-is _ x (made-is _ y)))
 
 fun-row : (o : ℕ) → o ≤ 1 → getD kinds (2 + o) noRow ≡ row atTerm 1 mostArguments o Body

@@ -2,7 +2,6 @@
 -- form.
 -- Assumes nothing.
 use Prim.Native.Nat.{ℕ, zero, suc, _+_, _<_, _≤_}
-use mathlib.Core.Path.{_≡_, refl, ap}
 use mathlib.Core.Bool.{Bool, true, false, cond}
 use mathlib.Core.List.{List, [], _∷_, _++_}
 use native.Mathlib.Omega.{arith}
@@ -13,7 +12,7 @@ use Rattle.language.specs.Words.{head, added, words, wordsᵗ, wordsᵃ}
 use Rattle.language.specs.Limits.{Ranged, Rangedᵗ, Rangedᵃ, r-var, r-kvar, r-fun, r-call, r-bind, r-con, r-cases, r-nil, r-cons, r-none, r-arm}
 use Rattle.language.specs.Run.{atoms}
 use Rattle.language.specs.Image.{lam, to, downto, calling, making, passing, carried, carrieds, chain, passingᵃ, image}
-use Rattle.language.proofs.Forms.{size-carrieds, size-passingᵃ}
+use Rattle.language.proofs.Forms.{size-carrieds, size-downto, size-passingᵃ}
 use Rattle.trust.specs.Promises.{wordEnd, Fit, WordsFit, ImagesInRange}
 
 fit-nil : Fit []
@@ -70,11 +69,6 @@ to-ranged {p} x y = r-call {ps = cons p nil} (omega arith) (omega arith) x (r-co
 
 k-ranged : (i : ℕ) → i ≤ 255 → Ranged images (kvar i)
 k-ranged i l = r-kvar tt l
-
-size-downto : (n : ℕ) → size (downto n) ≡ n
-unfolding downto size
-size-downto zero = refl
-size-downto (suc n) = ap suc (size-downto n)
 
 downto-ranged : (n : ℕ) → n ≤ 255 → Rangedᵗ images (downto n)
 unfolding downto
