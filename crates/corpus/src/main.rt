@@ -1,5 +1,5 @@
 // Runs the translator on many rules: standard input holds records, each a count of words and the words, all low byte first. Of each it prints
-// the refusal, or the image's count and checksum, and the image itself where it is short.
+// the refusal and its place, or the image's count and checksum, and the image itself where it is short.
 use language::Answer;
 use libc::STDIN_FILENO;
 use libc::STDOUT_FILENO;
@@ -78,9 +78,11 @@ fn print_words(image: &[u16])
     io::write_all(STDOUT_FILENO, &text[..size]);
 }
 
-fn print_refusal(number: u8) {
+fn print_refusal(number: u8, place: usize) {
     io::write_all(STDOUT_FILENO, b"no ");
     io::print_decimal(STDOUT_FILENO, number as u64);
+    io::write_all(STDOUT_FILENO, b" ");
+    io::print_decimal(STDOUT_FILENO, place as u64);
     io::write_all(STDOUT_FILENO, b"\n");
 }
 
@@ -88,7 +90,7 @@ fn print_refusal(number: u8) {
 fn report(rule: &[u16]) {
     let mut image = [0u16; language::MOST_IMAGE_WORDS];
     match rules::write(&mut image, rule) {
-        Answer::Refusal(e) => print_refusal(e),
+        Answer::Refusal(e, p) => print_refusal(e, p),
         Answer::Count(n) => {
             if n <= language::MOST_IMAGE_WORDS {
                 print_image(&image[..n]);

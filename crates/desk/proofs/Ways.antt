@@ -9,12 +9,12 @@ use lib.Dec.{ltb, eqb}
 use lib.ListN.{length, take, drop, length-append, length-drop}
 use lib.Seq.{length-take-le}
 use borrow.Author.Tests.{lt-ltb, le-ltb, ltb-false}
-use Rattle.language.specs.Read.{Reading, accepted, refused, read}
-use Rattle.language.specs.Calls.{Reply, success, refusal, Outcome, replyOf, told, filled, written}
+use Rattle.language.specs.Read.{noPlace, Reading, accepted, refused, read}
+use Rattle.language.specs.Calls.{Reply, success, refusal, Outcome, refuses, replyOf, told, filled, written}
 use Rattle.language.specs.declared.Answer.{Answer}
 use Rattle.language.specs.declared.Answer.the-variants.{Count, Refusal}
 use Rattle.listing.specs.Text.{replyText}
-use Rattle.files.specs.Files.{most, version, headerBytes, wordAt, marked, refuses, unpacking}
+use Rattle.files.specs.Files.{most, version, headerBytes, wordAt, marked, unpacking}
 use Rattle.files.specs.declared.Form.{Form}
 use Rattle.files.specs.declared.Form.the-variants.{Rules}
 use Rattle.desk.specs.Desk.{mostBytes, zeros, onward, translated, Within, counting, refusing, Translates, Counts, countOf, imageZeros, outcomeText, answerText}
@@ -24,8 +24,8 @@ record Sound (m : ℕ) (x : Outcome ℕ) : Type 0 where
   within : Within m (x .reply)
   kept : length (x .output) ≡ m
 
-sound-refusal : (e : ℕ) (out : List ℕ) → Sound (length out) (refuses e out)
-sound-refusal e out = record { within = refusing; kept = refl }
+sound-refusal : (e p : ℕ) (out : List ℕ) → Sound (length out) (refuses e p out)
+sound-refusal e p out = record { within = refusing; kept = refl }
 
 sound-cond : {m : ℕ} (b : Bool) {x y : Outcome ℕ} → Sound m x → Sound m y → Sound m (cond b x y)
 sound-cond true h k = h
@@ -36,8 +36,8 @@ unfolding filled
 sound-filled ws out = go (ltb (length out) (length ws)) refl
   where
     go : (b : Bool) → ltb (length out) (length ws) ≡ b
-        → Sound (length out) (cond b (refuses 9 out) (record { reply = success (length ws); output = ws ++ drop (length ws) out }))
-    go true e = sound-refusal 9 out
+        → Sound (length out) (cond b (refuses 9 noPlace out) (record { reply = success (length ws); output = ws ++ drop (length ws) out }))
+    go true e = sound-refusal 9 noPlace out
     go false e =
         let l : length ws ≤ length out = ltb-false (length out) (length ws) e in
         record { within = counting l; kept = simp (length-append, length-drop) (omega arith) }
@@ -45,7 +45,7 @@ sound-filled ws out = go (ltb (length out) (length ws)) refl
 sound-written : (g : Reading) (out : List ℕ) → Sound (length out) (written g out)
 unfolding written
 sound-written (accepted t) out = sound-filled _ out
-sound-written (refused e p) out = sound-refusal e out
+sound-written (refused e p) out = sound-refusal e p out
 
 sound-unpacking : (f : Form) (bs out : List ℕ) → Sound (length out) (unpacking f bs out)
 unfolding unpacking
@@ -53,11 +53,11 @@ sound-unpacking f bs out =
     sound-cond (marked f bs)
     (sound-cond (eqb (wordAt bs 3) version)
     (sound-cond (eqb (length bs) (headerBytes + 2 * wordAt bs 5))
-    (sound-cond (eqb (wordAt bs 5) 0) (sound-refusal 1 out)
-    (sound-cond (ltb (most f) (wordAt bs 5)) (sound-refusal 2 out) (sound-filled _ out)))
-    (sound-refusal 12 out))
-    (sound-refusal 11 out))
-    (sound-refusal 10 out)
+    (sound-cond (eqb (wordAt bs 5) 0) (sound-refusal 1 noPlace out)
+    (sound-cond (ltb (most f) (wordAt bs 5)) (sound-refusal 2 noPlace out) (sound-filled _ out)))
+    (sound-refusal 12 noPlace out))
+    (sound-refusal 11 noPlace out))
+    (sound-refusal 10 noPlace out)
 
 -- what an outcome tells, of the answer and of the output
 told-within : {m : ℕ} (a : Answer) {o : List ℕ} {x : Outcome ℕ} → told a o ≡ x → Sound m x → Within m (replyOf a)
@@ -72,7 +72,7 @@ count-within (counting h) = h
 
 -- the ways out
 module _ (bs out : List ℕ) where
-  pub t-long : mostBytes < length bs → Translates bs out (Refusal 2) out
+  pub t-long : mostBytes < length bs → Translates bs out (Refusal 2 noPlace) out
   unfolding translated replyOf
   t-long h = record { is = rw (lt-ltb mostBytes (length bs) h); within = refusing; kept = refl }
 
@@ -81,7 +81,7 @@ module _ (bs out : List ℕ) where
     unfolding translated
     through = rw (le-ltb mostBytes (length bs) l, ← u)
 
-    pub t-refused : {e : ℕ} → a ≡ Refusal e → Translates bs out (Refusal e) out
+    pub t-refused : {e p : ℕ} → a ≡ Refusal e p → Translates bs out (Refusal e p) out
     unfolding replyOf onward
     t-refused k = record { is = sym (through ∙ ap (λ x. onward (replyOf x) ws out) k); within = refusing; kept = refl }
 
@@ -105,7 +105,7 @@ module _ (bs out : List ℕ) where
     }
 
 -- the count of an answer, and none of a refusal
-pub c-refusal : {a : Answer} {e : ℕ} → a ≡ Refusal e → Counts a 0
+pub c-refusal : {a : Answer} {e p : ℕ} → a ≡ Refusal e p → Counts a 0
 unfolding replyOf countOf
 c-refusal k = record { is = sym (ap (λ x. countOf (replyOf x)) k) }
 
@@ -130,7 +130,7 @@ module _ {a : Answer} {r : ℕ} (c : Counts a r) {bs out o : List ℕ} (t : Tran
 reply-text : (r : Reply ℕ) (ws : List ℕ) → replyText r (take (countOf r) ws) ≡ outcomeText r ws
 unfolding outcomeText countOf replyText
 reply-text (success n) ws = refl
-reply-text (refusal e) ws = refl
+reply-text (refusal e p) ws = refl
 
 pub a-shown : (bs text : List ℕ) (a : Answer) {r : ℕ} {o : List ℕ} {x : Outcome ℕ} → Counts a r → Translates bs imageZeros a o
     → x ≡ filled (replyText (replyOf a) (take r o)) text → x ≡ filled (answerText bs) text

@@ -17,11 +17,11 @@ fn translate(out: &mut [u16], bytes: &[u8]) -> Answer
     ensures { λ r. ⌜ Translates (now (bytes .entry)) (now (out .entry)) r (now (out .exit)) ⌝ }
 {
     if MOST_BYTES < bytes.len() {
-        return Answer::Refusal(language::TOO_MANY_WORDS);
+        return Answer::Refusal(language::TOO_MANY_WORDS, language::NO_PLACE);
     }
     let mut rule = [0u16; language::MOST_WORDS];
     match rules::unpack(&mut rule, Form::Rules, bytes) {
-        Answer::Refusal(e) => Answer::Refusal(e),
+        Answer::Refusal(e, p) => Answer::Refusal(e, p),
         Answer::Count(n) => rules::write(out, &rule[..n]),
     }
 }
@@ -31,7 +31,7 @@ fn counted(answer: Answer) -> usize
     ensures { λ r. ⌜ Counts answer r ⌝ }
 {
     match answer {
-        Answer::Refusal(_) => 0,
+        Answer::Refusal(_, _) => 0,
         Answer::Count(n) => n,
     }
 }

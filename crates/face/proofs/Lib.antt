@@ -1,4 +1,3 @@
-pub mod Faults
 pub mod Replies
 pub mod Ways
 pub mod Promises

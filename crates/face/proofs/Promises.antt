@@ -1,14 +1,14 @@
 -- The promises of specs/Promises.antt. `rules` determines the answer and the output, and no two numbers mean one answer: each number is found again
 -- from what it means.
 -- Assumes nothing.
-use Prim.Native.Nat.{ℕ, _+_, _-_, _≤_}
+use Prim.Native.Nat.{ℕ, _≤_}
 use mathlib.Core.Path.{_≡_, refl, sym, ap, _∙_, subst}
 use mathlib.Core.Bool.{Bool, true, false, cond}
 use mathlib.Core.List.{List}
 use native.Mathlib.Omega.{arith}
 use lib.Dec.{ltb, eqb}
 use borrow.Author.Tests.{ltb-false, eqb-true}
-use Rattle.language.specs.Calls.{Reply, Outcome, refusal, replyOf, told}
+use Rattle.language.specs.Calls.{Reply, Outcome, replyOf, told}
 use Rattle.language.specs.declared.Answer.{Answer}
 use Rattle.language.specs.declared.Answer.the-variants.{Count, Refusal}
 use Rattle.language.proofs.Clash.{never}
@@ -18,30 +18,30 @@ use Rattle.reading.specs.declared.Checked.the-variants as checking
 use Rattle.files.specs.declared.Form.{Form}
 use Rattle.rules.specs.Contracts.{Call}
 use Rattle.rules.proofs.Promises.{determined}
-use Rattle.face.specs.Numbers.{refusals, answerOf, checkedOf}
+use Rattle.face.specs.Numbers.{refusals, numberIn, placeIn, answerOf, checkedOf, refusalNumber}
 use Rattle.face.specs.Calls.{check, measure, write, pack, unpack, Formed, formed, formless}
-use Rattle.face.specs.Promises.{NumberDetermined, lastRefusal, NumbersRange}
+use Rattle.face.specs.Promises.{NumberDetermined, Returnable, counts, refuses, NumbersRange}
 use Rattle.face.specs.declared.Told.{Told}
 use Rattle.face.proofs.Replies as replies
-use Rattle.face.proofs.Replies.{Fair, Any, succeeds, refused-as, Counted, checked-fair, measured-fair, written-counted, packing-counted, unpacking-counted}
+use Rattle.face.proofs.Replies.{Fair, Any, succeeds, refused-as, fair-listed, Counted, checked-fair, measured-fair, written-counted, packing-counted, unpacking-counted}
 
 -- the number of an answer, and of a check's
 number : Answer → ℕ
 number (Count n) = n
-number (Refusal e) = refusals + e
+number (Refusal e p) = refusalNumber e p
 
 check-number : Checked → ℕ
 check-number checking.Success = 0
-check-number (checking.Refusal e) = refusals + e
+check-number (checking.Refusal e p) = refusalNumber e p
 
-above : {n : ℕ} → refusals ≤ n → refusals + (n - refusals) ≡ n
+above : {n : ℕ} → refusals ≤ n → refusalNumber (numberIn n) (placeIn n) ≡ n
 above h = omega arith
 
 number-again : (n : ℕ) → number (answerOf n) ≡ n
 unfolding answerOf number
 number-again n = go (ltb n refusals) refl
   where
-    go : (b : Bool) → ltb n refusals ≡ b → number (cond b (Count n) (Refusal (n - refusals))) ≡ n
+    go : (b : Bool) → ltb n refusals ≡ b → number (cond b (Count n) (Refusal (numberIn n) (placeIn n))) ≡ n
     go true h = refl
     go false h = above (ltb-false n refusals h)
 
@@ -53,14 +53,10 @@ check-number-again : (n : ℕ) → Fair Any (checkedReply (checkedOf n)) → che
 unfolding checkedOf checkedReply check-number
 check-number-again n = go (eqb n 0) refl
   where
-    listed : {e : ℕ} {r : Reply (Unit {0})} → Fair Any r → r ≡ refusal e → 1 ≤ e
-    listed (succeeds u) k = never cc
-    listed {e} (refused-as {e = d} l) k = let z : d ≡ e = cc in omega (arith, l .first)
-
-    go : (b : Bool) → eqb n 0 ≡ b → Fair Any (checkedReply (cond b checking.Success (checking.Refusal (n - refusals))))
-        → check-number (cond b checking.Success (checking.Refusal (n - refusals))) ≡ n
+    go : (b : Bool) → eqb n 0 ≡ b → Fair Any (checkedReply (cond b checking.Success (checking.Refusal (numberIn n) (placeIn n))))
+        → check-number (cond b checking.Success (checking.Refusal (numberIn n) (placeIn n))) ≡ n
     go true h f = sym (eqb-true n 0 h)
-    go false h f = let l : 1 ≤ n - refusals = listed f refl in omega arith
+    go false h f = let l : 1 ≤ numberIn n = fair-listed f refl .first in omega arith
 
 -- a number and an output are determined by the answer meant and the output
 same-returned : (x y : ℕ × List ℕ) → _≡_ {A = Answer × List ℕ} (answerOf (x .0), x .1) (answerOf (y .0), y .1) → x ≡ y
@@ -85,32 +81,30 @@ number-determined (pack n ws out) x y h k = same-formed (λ f. determined (Call.
 number-determined (unpack n bs out) x y h k = same-formed (λ f. determined (Call.unpack f bs out)) h k
 
 -- what a fair reply's number can be
-answer-range : {r : Reply ℕ} (n : ℕ) → Fair replies.Count r → replyOf (answerOf n) ≡ r → n ≤ refusals + lastRefusal
+answer-range : {r : Reply ℕ} (n : ℕ) → Fair replies.Count r → replyOf (answerOf n) ≡ r → Returnable n
 unfolding replyOf number
 answer-range n f h = rw (← number-again n) (go (answerOf n) f h)
   where
-    go : (a : Answer) {r : Reply ℕ} → Fair replies.Count r → replyOf a ≡ r → number a ≤ refusals + lastRefusal
-    go (Count m) (succeeds {a = k} l) e = let z : m ≡ k = cc in omega arith
+    go : (a : Answer) {r : Reply ℕ} → Fair replies.Count r → replyOf a ≡ r → Returnable (number a)
+    go (Count m) (succeeds {a = k} l) e = let z : m ≡ k = cc in counts {n = m} (omega arith)
     go (Count m) (refused-as l) e = never cc
-    go (Refusal d) (succeeds l) e = never cc
-    go (Refusal d) (refused-as {e = k} l) e = let z : d ≡ k = cc in omega (arith, l .last)
+    go (Refusal d i) f e = let l = fair-listed f (sym e) in refuses (l .last) (l .near)
 
-told-range : {o : Outcome ℕ} (n : ℕ) {out : List ℕ} → Counted o → told (answerOf n) out ≡ o → n ≤ refusals + lastRefusal
+told-range : {o : Outcome ℕ} (n : ℕ) {out : List ℕ} → Counted o → told (answerOf n) out ≡ o → Returnable n
 told-range n c h = answer-range n (c .fair) (ap (λ q. q .reply) h)
 
-check-range : {r : Reply (Unit {0})} (n : ℕ) → Fair Any r → checkedReply (checkedOf n) ≡ r → n ≤ refusals + lastRefusal
+check-range : {r : Reply (Unit {0})} (n : ℕ) → Fair Any r → checkedReply (checkedOf n) ≡ r → Returnable n
 unfolding checkedReply check-number
 check-range n f h = rw (← check-number-again n (rw h f)) (go (checkedOf n) f h)
   where
-    go : (a : Checked) {r : Reply (Unit {0})} → Fair Any r → checkedReply a ≡ r → check-number a ≤ refusals + lastRefusal
-    go checking.Success f e = omega arith
-    go (checking.Refusal d) (succeeds l) e = never cc
-    go (checking.Refusal d) (refused-as {e = k} l) e = let z : d ≡ k = cc in omega (arith, l .last)
+    go : (a : Checked) {r : Reply (Unit {0})} → Fair Any r → checkedReply a ≡ r → Returnable (check-number a)
+    go checking.Success f e = counts {n = 0} (omega arith)
+    go (checking.Refusal d i) f e = let l = fair-listed f (sym e) in refuses (l .last) (l .near)
 
 formed-range : {t : Told} {A : Form → Answer × List ℕ → Type 0} {out : List ℕ} {r : ℕ × List ℕ}
-    → ((f : Form) → A f (answerOf (r .0), r .1) → r .0 ≤ refusals + lastRefusal) → Formed t A out r → r .0 ≤ refusals + lastRefusal
+    → ((f : Form) → A f (answerOf (r .0), r .1) → Returnable (r .0)) → Formed t A out r → Returnable (r .0)
 formed-range k (formed f p a) = k f a
-formed-range k (formless p n o) = omega arith
+formed-range k (formless p n o) = rw n (refuses {e = 0} {p = 0} (omega arith) (omega arith))
 
 pub numbers-range : NumbersRange
 numbers-range (check ws) r h = check-range r (checked-fair ws) h

@@ -1,5 +1,5 @@
--- What the definitions reply fits the face's numbers: a count is below 65,536, and a refusal is one of document 01's. An image has at most seven words
--- for each of its rule's, and a file is as long as its words ask.
+-- What the definitions reply fits the face's numbers: a count is below 65,536, and a refusal is one of document 01's, at a place that a rule can have. An
+-- image has at most seven words for each of its rule's, and a file is as long as its words ask.
 -- Assumes nothing.
 use Prim.Native.Nat.{ℕ, _+_, _*_, _<_, _≤_}
 use mathlib.Core.Path.{_≡_, refl}
@@ -11,25 +11,42 @@ use lib.ListN.{length}
 use borrow.Author.Tests.{ltb-false}
 use Rattle.language.specs.Term.{images, Term}
 use Rattle.language.specs.Words.{words}
-use Rattle.language.specs.Limits.{mostImageWords}
+use Rattle.language.specs.Limits.{mostWords, mostImageWords}
 use Rattle.language.specs.Image.{image}
-use Rattle.language.specs.Read.{Reading, accepted, read}
-use Rattle.language.specs.Calls.{Reply, Outcome, success, refusal, checked, measured, filled, written}
+use Rattle.language.specs.Read.{noPlace, Reading, accepted, refused, read}
+use Rattle.language.proofs.Clash.{never}
+use Rattle.language.specs.Calls.{Reply, Outcome, success, refusal, refuses, checked, measured, filled, written}
 use Rattle.sizes.proofs.Promises.{seven-times}
+use Rattle.trust.specs.Promises.{Placed, of-length, of-end, of-word}
 use Rattle.trust.proofs.Accepted.{accepted-rule}
-use Rattle.files.specs.Files.{most, version, headerBytes, wordAt, packed, wordsAt, refuses, marked, packing, unpacking}
+use Rattle.trust.proofs.Placed.{places-help}
+use Rattle.files.specs.Files.{most, version, headerBytes, wordAt, packed, wordsAt, marked, packing, unpacking}
 use Rattle.files.specs.declared.Form.{Form}
 use Rattle.files.specs.declared.Form.the-variants.{Rules, Images}
 use Rattle.files.proofs.Calls.{packed-length, wordsAt-length}
 use Rattle.face.specs.Numbers.{refusals}
 use Rattle.face.specs.Promises.{lastRefusal}
-use Rattle.face.proofs.Faults as faults
-use Rattle.face.proofs.Faults.{Listed, Judged, judged}
+
+-- a number of document 01's table of refusals, and a place that a rule can have
+pub record Listed (e p : ℕ) : Type 0 where
+  pub first : 1 ≤ e
+  pub last : e ≤ lastRefusal
+  pub near : p ≤ mostWords
+
+-- what a refusal's place tells shows that both are listed
+placed-listed : {ws : List ℕ} {e p : ℕ} → Placed ws e p → Listed e p
+placed-listed (of-length a b) = record { first = a; last = omega arith; near = omega arith }
+placed-listed (of-end l) = record { first = omega arith; last = omega arith; near = l }
+placed-listed (of-word l a b i more) = record { first = omega arith; last = omega arith; near = omega arith }
 
 -- a success of which Q holds, or a refusal of document 01's
 pub data Fair {A : Type 0} (Q : A → Type 0) : Reply A → Type 0 where
   succeeds : {a : A} → Q a → Fair Q (success a)
-  refused-as : {e : ℕ} → Listed e → Fair Q (refusal e)
+  refused-as : {e p : ℕ} → Listed e p → Fair Q (refusal e p)
+
+pub fair-listed : {A : Type 0} {Q : A → Type 0} {r : Reply A} {e p : ℕ} → Fair Q r → r ≡ refusal e p → Listed e p
+fair-listed (succeeds q) h = never cc
+fair-listed {e} {p} (refused-as {e = d} {p = i} l) h = let x : d ≡ e = cc in let y : i ≡ p = cc in rw (x, y) at l
 
 abbrev pub Count : ℕ → Type 0
 Count n = n < refusals
@@ -42,26 +59,26 @@ image-counts ws t h = omega (arith, seven-times t, accepted-rule ws t h .short)
 
 pub checked-fair : (ws : List ℕ) → Fair Any (checked (read ws))
 unfolding checked
-checked-fair ws = go (judged ws)
+checked-fair ws = go (read ws) refl
   where
-    go : {g : Reading} → Judged g → Fair Any (checked g)
-    go faults.accepts = succeeds tt
-    go (faults.refuses l) = refused-as l
+    go : (g : Reading) → read ws ≡ g → Fair Any (checked g)
+    go (accepted t) h = succeeds tt
+    go (refused e p) h = refused-as (placed-listed (places-help ws e p h))
 
 pub measured-fair : (ws : List ℕ) → Fair Count (measured (read ws))
 unfolding measured
-measured-fair ws = go (judged ws) refl
+measured-fair ws = go (read ws) refl
   where
-    go : {g : Reading} → Judged g → read ws ≡ g → Fair Count (measured g)
-    go (faults.accepts {t}) h = let k : Count (length (words images (image t))) = omega (arith, image-counts ws t h) in succeeds k
-    go (faults.refuses l) h = refused-as l
+    go : (g : Reading) → read ws ≡ g → Fair Count (measured g)
+    go (accepted t) h = let k : Count (length (words images (image t))) = omega (arith, image-counts ws t h) in succeeds k
+    go (refused e p) h = refused-as (placed-listed (places-help ws e p h))
 
 -- of an outcome: its reply is fair
 pub record Counted (o : Outcome ℕ) : Type 0 where
   pub fair : Fair Count (o .reply)
 
-refuses-counted : (e : ℕ) (out : List ℕ) → 1 ≤ e → e ≤ lastRefusal → Counted (refuses e out)
-refuses-counted e out a b = record { fair = refused-as (record { first = a; last = b }) }
+refuses-counted : (e : ℕ) (out : List ℕ) → 1 ≤ e → e ≤ lastRefusal → Counted (refuses e noPlace out)
+refuses-counted e out a b = record { fair = refused-as {p = noPlace} (record { first = a; last = b; near = omega arith }) }
 
 test-counted : (b : Bool) {x y : Outcome ℕ} → (b ≡ true → Counted x) → (b ≡ false → Counted y) → Counted (cond b x y)
 test-counted true h k = h refl
@@ -75,11 +92,11 @@ filled-counted ws out h =
 
 pub written-counted : (ws out : List ℕ) → Counted (written (read ws) out)
 unfolding written
-written-counted ws out = go (judged ws) refl
+written-counted ws out = go (read ws) refl
   where
-    go : {g : Reading} → Judged g → read ws ≡ g → Counted (written g out)
-    go (faults.accepts {t}) h = filled-counted (words images (image t)) out (omega (arith, image-counts ws t h))
-    go (faults.refuses l) h = record { fair = refused-as l }
+    go : (g : Reading) → read ws ≡ g → Counted (written g out)
+    go (accepted t) h = filled-counted (words images (image t)) out (omega (arith, image-counts ws t h))
+    go (refused e p) h = record { fair = refused-as (placed-listed (places-help ws e p h)) }
 
 most-most : (f : Form) → most f ≤ mostImageWords
 most-most Rules = omega arith

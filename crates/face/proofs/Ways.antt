@@ -1,13 +1,14 @@
 -- The ways out of the face's calls, in the words of the code: one law for each.
 -- Assumes nothing.
-use Prim.Native.Nat.{ℕ, zero, suc, _+_, _<_}
-use mathlib.Core.Path.{_≡_, refl, sym, ap, _∙_}
+use Prim.Native.Nat.{ℕ, zero, suc, _<_, _≤_}
+use mathlib.Core.Path.{_≡_, refl, sym, ap, ap₂, _∙_}
 use mathlib.Core.List.{List}
 use native.Mathlib.Omega.{arith}
 use mir.Syntax.{w32}
 use mir.Val.{Fits}
 use borrow.Author.Needs.{needs}
 use borrow.Author.Tests.{lt-ltb, le-ltb, ne-eqb}
+use Rattle.language.specs.Limits.{mostWords}
 use Rattle.language.specs.Read.{read}
 use Rattle.language.specs.Calls.{Reply, Outcome, replyOf, told, checked}
 use Rattle.language.specs.declared.Answer.{Answer}
@@ -18,12 +19,12 @@ use Rattle.reading.specs.declared.Checked.{Checked}
 use Rattle.reading.specs.declared.Checked.the-variants as checking
 use Rattle.files.specs.declared.Form.{Form}
 use Rattle.files.specs.declared.Form.the-variants.{Rules, Images}
-use Rattle.face.specs.Numbers.{refusals, answerOf, checkedOf, formOf, noForm, Small}
+use Rattle.face.specs.Numbers.{refusals, numberIn, placeIn, answerOf, checkedOf, formOf, noForm, refusalNumber, Small}
 use Rattle.face.specs.Calls.{Formed, formed, formless}
 use Rattle.face.specs.declared.Told.{Told}
 use Rattle.face.specs.declared.Told.the-variants.{Is, NoForm}
 use Rattle.face.proofs.Replies as replies
-use Rattle.face.proofs.Replies.{Fair, succeeds, refused-as, Counted, measured-fair, written-counted, packing-counted, unpacking-counted}
+use Rattle.face.proofs.Replies.{Listed, Fair, succeeds, refused-as, fair-listed, Counted, checked-fair, measured-fair, written-counted, packing-counted, unpacking-counted}
 
 -- the forms' numbers
 pub f-rules : {n : ℕ} → n ≡ 0 → Is Rules ≡ formOf n
@@ -45,9 +46,15 @@ count-is : (n : ℕ) → n < refusals → answerOf n ≡ Count n
 unfolding answerOf
 count-is n h = simp (lt-ltb n refusals h)
 
-pub refusal-is : (n e : ℕ) → n ≡ refusals + e → answerOf n ≡ Refusal e
+number-in : (e p : ℕ) → e < refusals → numberIn (refusalNumber e p) ≡ e
+number-in e p l = omega arith
+
+place-in : (e p : ℕ) → e < refusals → placeIn (refusalNumber e p) ≡ p
+place-in e p l = omega arith
+
+refusal-is : (e p : ℕ) → e < refusals → answerOf (refusalNumber e p) ≡ Refusal e p
 unfolding answerOf
-refusal-is n e h = simp (le-ltb n refusals (omega arith)) (ap Refusal (omega arith))
+refusal-is e p l = simp (le-ltb (refusalNumber e p) refusals (omega arith)) (ap₂ Refusal (number-in e p l) (place-in e p l))
 
 pub n-fits : {a : Answer} {n : ℕ} → Small a → a ≡ Count n → Fits w32 n
 n-fits {n} s h = record { fits = omega (arith, s .below n h) }
@@ -55,24 +62,41 @@ n-fits {n} s h = record { fits = omega (arith, s .below n h) }
 pub n-count : {a : Answer} {n : ℕ} → Small a → a ≡ Count n → answerOf n ≡ a
 n-count {n} s h = count-is n (s .below n h) ∙ sym h
 
-pub n-refusal : {a : Answer} {e : ℕ} → a ≡ Refusal e → answerOf (refusals + e) ≡ a
-n-refusal {e} h = refusal-is (refusals + e) e refl ∙ sym h
+pub n-near : {a : Answer} {e p : ℕ} → Small a → a ≡ Refusal e p → p ≤ mostWords
+n-near {e} {p} s h = s .near e p h
+
+pub n-refusal : {a : Answer} {e p n : ℕ} → Small a → a ≡ Refusal e p → n ≡ refusalNumber e p → answerOf n ≡ a
+n-refusal {e} {p} s h k = ap answerOf k ∙ refusal-is e p (s .listed e p h) ∙ sym h
 
 -- the checking call's numbers
 pub c-success : (ws : List ℕ) {a : Checked} → checkedReply a ≡ checked (read ws) → a ≡ checking.Success → checkedReply (checkedOf 0) ≡ checked (read ws)
 unfolding checkedOf
 c-success ws h k = rw k at h
 
-pub c-refusal : (ws : List ℕ) {a : Checked} {e : ℕ} → checkedReply a ≡ checked (read ws) → a ≡ checking.Refusal e
-    → checkedReply (checkedOf (refusals + e)) ≡ checked (read ws)
-unfolding checkedOf
-c-refusal ws {a} {e} h k =
-    let z : checkedOf (refusals + e) ≡ a = simp (ne-eqb (refusals + e) 0 (λ x. omega arith)) (ap checking.Refusal (omega arith) ∙ sym k) in rw z h
+module _ (ws : List ℕ) {a : Checked} {e p : ℕ} (h : checkedReply a ≡ checked (read ws)) (k : a ≡ checking.Refusal e p) where
+  c-listed : Listed e p
+  unfolding checkedReply
+  c-listed = fair-listed (checked-fair ws) (sym h ∙ ap checkedReply k)
+
+  pub c-near : p ≤ mostWords
+  c-near = c-listed .near
+
+  pub c-refusal : {n : ℕ} → n ≡ refusalNumber e p → checkedReply (checkedOf n) ≡ checked (read ws)
+  unfolding checkedOf
+  c-refusal {n} i =
+      let l : e < refusals = omega (arith, c-listed .last) in
+      let z : checkedOf n ≡ a
+      = rw i (simp (ne-eqb (refusalNumber e p) 0 (λ x. omega arith)) (ap₂ checking.Refusal (number-in e p l) (place-in e p l) ∙ sym k)) in
+      rw z h
 
 -- an answer that means a fair reply is small
 pub s-reply : {a : Answer} {r : Reply ℕ} → replyOf a ≡ r → Fair replies.Count r → Small a
 unfolding replyOf
-s-reply h f = record { below = λ n k. go f n (sym h ∙ ap replyOf k) }
+s-reply h f = record {
+  below = λ n k. go f n (sym h ∙ ap replyOf k);
+  listed = λ e p k. omega (arith, fair-listed {e = e} {p = p} f (sym h ∙ ap replyOf k) .last);
+  near = λ e p k. fair-listed {e = e} {p = p} f (sym h ∙ ap replyOf k) .near;
+}
   where
     go : {r : Reply ℕ} → Fair replies.Count r → (n : ℕ) → r ≡ replyOf (Count n) → n < refusals
     go (succeeds {a = m} l) n e = let z : m ≡ n = cc in omega arith
@@ -102,8 +126,10 @@ pub ruleset ways = (
   f-none,
   n-fits,
   n-count,
+  n-near,
   n-refusal,
   c-success,
+  c-near,
   c-refusal,
   s-reply,
   s-told,

@@ -1,9 +1,11 @@
 -- What the face's numbers mean. A program in C is answered by one number of 32 bits: below 65,536 it is a count, which is always less than that (an
--- image has at most 28,672 words, and its file 57,351 bytes); from 65,536 on it is a refusal, and what is above 65,536 is document 01's number.
-use Prim.Native.Nat.{ℕ, zero, suc, _-_, _<_}
+-- image has at most 28,672 words, and its file 57,351 bytes); from 65,536 on it is a refusal, and what is above 65,536 has document 01's number in its
+-- low 16 bits and the place in its high 16 bits.
+use Prim.Native.Nat.{ℕ, zero, suc, _+_, _-_, _*_, _/_, _%_, _<_, _≤_}
 use mathlib.Core.Path.{_≡_}
 use mathlib.Core.Bool.{cond}
 use lib.Dec.{ltb, eqb}
+use Rattle.language.specs.Limits.{mostWords}
 use Rattle.language.specs.declared.Answer.{Answer}
 use Rattle.language.specs.declared.Answer.the-variants.{Count, Refusal}
 use Rattle.reading.specs.declared.Checked.{Checked}
@@ -16,12 +18,19 @@ use Rattle.face.specs.declared.Told.the-variants.{Is, NoForm}
 abbrev pub refusals : ℕ
 refusals = 65536
 
+-- a refusal's number and its place, from the number returned
+abbrev pub numberIn : ℕ → ℕ
+numberIn n = (n - refusals) % refusals
+
+abbrev pub placeIn : ℕ → ℕ
+placeIn n = (n - refusals) / refusals
+
 unfoldable pub answerOf : ℕ → Answer
-answerOf n = cond (ltb n refusals) (Count n) (Refusal (n - refusals))
+answerOf n = cond (ltb n refusals) (Count n) (Refusal (numberIn n) (placeIn n))
 
 -- "The checking call gives only success or the refusal": success is 0
 unfoldable pub checkedOf : ℕ → Checked
-checkedOf n = cond (eqb n 0) checking.Success (checking.Refusal (n - refusals))
+checkedOf n = cond (eqb n 0) checking.Success (checking.Refusal (numberIn n) (placeIn n))
 
 -- the forms of files: 0 is of rules (mark LRS), 1 of images (LRI); no other number is a form's
 unfoldable pub formOf : ℕ → Told
@@ -33,6 +42,12 @@ formOf (suc (suc n)) = NoForm
 abbrev pub noForm : ℕ
 noForm = refusals
 
+-- the number of a refusal at a place
+abbrev pub refusalNumber : ℕ → ℕ → ℕ
+refusalNumber e p = refusals + e + refusals * p
+
 -- an answer that a number can mean
 pub record Small (a : Answer) : Type 0 where
   pub below : (n : ℕ) → a ≡ Count n → n < refusals
+  pub listed : (e p : ℕ) → a ≡ Refusal e p → e < refusals
+  pub near : (e p : ℕ) → a ≡ Refusal e p → p ≤ mostWords

@@ -1,7 +1,8 @@
 -- What a program in C may rely on, of whatever outcome the contracts allow.
-use Prim.Native.Nat.{ℕ, _+_, _≤_}
+use Prim.Native.Nat.{ℕ, _<_, _≤_}
 use mathlib.Core.Path.{_≡_}
-use Rattle.face.specs.Numbers.{refusals}
+use Rattle.language.specs.Limits.{mostWords}
+use Rattle.face.specs.Numbers.{refusals, refusalNumber}
 use Rattle.face.specs.Calls.{Asked, Returned, check, measure, write, pack, unpack, Means}
 
 -- "prove that two outcomes allowed by it are equal": of every call the number too
@@ -20,6 +21,11 @@ numberOf (unpack n bs out) r = r .0
 abbrev pub lastRefusal : ℕ
 lastRefusal = 12
 
--- no number but a count's and those of the refusals 0 (no form) to 12 is ever returned
+-- a count, or a refusal of 0 (no form) to 12 at a place that a rule can have
+pub data Returnable : ℕ → Type 0 where
+  counts : {n : ℕ} → n < refusals → Returnable n
+  refuses : {e p : ℕ} → e ≤ lastRefusal → p ≤ mostWords → Returnable (refusalNumber e p)
+
+-- no other number is ever returned
 abbrev pub NumbersRange : Type 0
-NumbersRange = (c : Asked) (r : Returned c) → Means c r → numberOf c r ≤ refusals + lastRefusal
+NumbersRange = (c : Asked) (r : Returned c) → Means c r → Returnable (numberOf c r)

@@ -4,10 +4,12 @@ use files::Form;
 use language::Answer;
 use reading::Checked;
 ghost use mathlib.Core.Path.{_≡_};
-ghost use Rattle.face.specs.Numbers.{Small, answerOf, checkedOf, formOf};
+ghost use Prim.Native.Nat.{_≤_};
+ghost use Rattle.language.specs.Limits.{mostWords};
+ghost use Rattle.face.specs.Numbers.{Small, answerOf, checkedOf, formOf, refusalNumber};
 ghost use Rattle.face.specs.Calls.{Asked, Means};
 
-// A refusal's reply is its number above this one. Below it are the counts.
+// Where the refusals start, and what each place adds to a refusal's reply. Below are the counts.
 const REFUSALS: u32 = 65536;
 
 // The checking call's reply to a rule.
@@ -37,6 +39,14 @@ fn form_of(n: u32) -> Told
     }
 }
 
+// The number that means a refusal at a place.
+fn refused(e: u8, p: usize) -> u32
+    requires { ⌜ p ≤ mostWords ⌝ }
+    ensures { λ r. ⌜ r ≡ refusalNumber e p ⌝ }
+{
+    REFUSALS + e as u32 + REFUSALS * p as u32
+}
+
 // The number that means this answer.
 fn number(a: Answer) -> u32
     requires { ⌜ Small a ⌝ }
@@ -44,7 +54,7 @@ fn number(a: Answer) -> u32
 {
     match a {
         Answer::Count(n) => n as u32,
-        Answer::Refusal(e) => REFUSALS + e as u32,
+        Answer::Refusal(e, p) => refused(e, p),
     }
 }
 
@@ -55,7 +65,7 @@ pub extern "C" fn peatnickel_check(words: &[u16]) -> u32
 {
     match rules::check(words) {
         Checked::Success => SUCCESS,
-        Checked::Refusal(e) => REFUSALS + e as u32,
+        Checked::Refusal(e, p) => refused(e, p),
     }
 }
 

@@ -8,6 +8,7 @@ use native.Mathlib.Omega.{arith}
 use lib.ListN.{length}
 use lib.Seq.{sets}
 use borrow.Author.Tests.{lt-ltb, le-ltb, eq-eqb, ne-eqb, not-true, not-false, ltb-false}
+use Rattle.language.specs.Read.{noPlace}
 use Rattle.language.specs.Calls.{replyOf, told, filled}
 use Rattle.language.specs.declared.Answer.the-variants.{Count, Refusal}
 use Rattle.language.proofs.Stores.{filled-short, filled-whole}
@@ -35,16 +36,16 @@ sets-packed f l ws = refl
 
 -- packing
 module _ (f : Form) (ws out : List ℕ) where
-  pub pack-none : length ws ≡ 0 → told (Refusal 1) out ≡ packing f ws out
+  pub pack-none : length ws ≡ 0 → told (Refusal 1 noPlace) out ≡ packing f ws out
   unfolding packing replyOf
   pack-none e = simp (eq-eqb _ _ e)
 
   module _ {m : ℕ} (n : length ws ≡ 0 → ⊥) (e : m ≡ most f) where
-    pub pack-many : m < length ws → told (Refusal 2) out ≡ packing f ws out
+    pub pack-many : m < length ws → told (Refusal 2 noPlace) out ≡ packing f ws out
     unfolding packing replyOf
     pack-many h = simp (ne-eqb _ _ n, ← e, lt-ltb _ _ h)
 
-    pub pack-short : length ws ≤ m → length out < headerBytes + 2 * length ws → told (Refusal 9) out ≡ packing f ws out
+    pub pack-short : length ws ≤ m → length out < headerBytes + 2 * length ws → told (Refusal 9 noPlace) out ≡ packing f ws out
     unfolding packing replyOf
     pack-short h k = simp (ne-eqb _ _ n, ← e, le-ltb _ _ h) (filled-short (packed f ws) out (rw packed-length k))
 
@@ -56,7 +57,7 @@ module _ (f : Form) (ws out : List ℕ) where
 
 -- unpacking
 module _ (f : Form) (bs out : List ℕ) where
-  pub unpack-mark : {r : Bool} → r ≡ marked f bs → not r ≡ true → told (Refusal 10) out ≡ unpacking f bs out
+  pub unpack-mark : {r : Bool} → r ≡ marked f bs → not r ≡ true → told (Refusal 10 noPlace) out ≡ unpacking f bs out
   unfolding unpacking replyOf
   unpack-mark e h = let k : marked f bs ≡ false = sym e ∙ not-true _ h in simp k
 
@@ -69,22 +70,22 @@ module _ (f : Form) (bs out : List ℕ) where
         let t = not-true _ (and-eq-true-iff _ _ .0 is-marked .0) in
         omega (arith, ltb-false (length bs) headerBytes t)
 
-    pub unpack-version : {v : ℕ} → v ≡ wordAt bs 3 → (v ≡ version → ⊥) → told (Refusal 11) out ≡ unpacking f bs out
+    pub unpack-version : {v : ℕ} → v ≡ wordAt bs 3 → (v ≡ version → ⊥) → told (Refusal 11 noPlace) out ≡ unpacking f bs out
     unfolding unpacking replyOf
     unpack-version q n = simp (is-marked, ← q, ne-eqb _ _ n)
 
     module _ {v c : ℕ} (q : v ≡ wordAt bs 3) (k : v ≡ version) (p : c ≡ wordAt bs 5) where
-      pub unpack-length : (length bs ≡ headerBytes + 2 * c → ⊥) → told (Refusal 12) out ≡ unpacking f bs out
+      pub unpack-length : (length bs ≡ headerBytes + 2 * c → ⊥) → told (Refusal 12 noPlace) out ≡ unpacking f bs out
       unfolding unpacking replyOf
       unpack-length n = simp (is-marked, ← q, eq-eqb _ _ k, ← p, ne-eqb _ _ n)
 
       module _ (l : length bs ≡ headerBytes + 2 * c) where
-        pub unpack-none : c ≡ 0 → told (Refusal 1) out ≡ unpacking f bs out
+        pub unpack-none : c ≡ 0 → told (Refusal 1 noPlace) out ≡ unpacking f bs out
         unfolding unpacking replyOf
         unpack-none z = simp (is-marked, ← q, eq-eqb _ _ k, ← p, eq-eqb _ _ l, eq-eqb _ _ z)
 
         module _ {m : ℕ} (z : c ≡ 0 → ⊥) (w : m ≡ most f) where
-          pub unpack-many : m < c → told (Refusal 2) out ≡ unpacking f bs out
+          pub unpack-many : m < c → told (Refusal 2 noPlace) out ≡ unpacking f bs out
           unfolding unpacking replyOf
           unpack-many g = simp (is-marked, ← q, eq-eqb _ _ k, ← p, eq-eqb _ _ l, ne-eqb _ _ z, ← w, lt-ltb _ _ g)
 
@@ -92,7 +93,7 @@ module _ (f : Form) (bs out : List ℕ) where
           unfolding unpacking replyOf
           unpack-fills g = simp (is-marked, ← q, eq-eqb _ _ k, ← p, eq-eqb _ _ l, ne-eqb _ _ z, ← w, le-ltb _ _ g)
 
-          pub unpack-short : c ≤ m → length out < c → told (Refusal 9) out ≡ unpacking f bs out
+          pub unpack-short : c ≤ m → length out < c → told (Refusal 9 noPlace) out ≡ unpacking f bs out
           unpack-short g y = filled-short (wordsAt bs headerBytes c) out (rw wordsAt-length y) ∙ sym (unpack-fills g)
 
           pub unpack-whole : {o : List ℕ} → c ≤ m → c ≤ length out → o ≡ sets out 0 (wordsAt bs headerBytes c) → told (Count c) o ≡ unpacking f bs out

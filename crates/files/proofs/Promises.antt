@@ -10,26 +10,27 @@ use lib.Dec.{ltb, eqb}
 use lib.ListN.{length, getD, drop}
 use lib.Seq.{getD-append-add}
 use borrow.Author.Tests.{le-ltb, eq-eqb, ne-eqb, eqb-true, eqb-false, ltb-false}
-use Rattle.language.specs.Calls.{Outcome, success, filled}
+use Rattle.language.specs.Read.{noPlace}
+use Rattle.language.specs.Calls.{Outcome, success, refuses, filled}
 use Rattle.language.proofs.Clash.{never}
-use Rattle.files.specs.Files.{markL, markR, third, most, version, headerBytes, header, bytesOf, packed, wordAt, wordsAt, refuses, marked, packing, unpacking}
+use Rattle.files.specs.Files.{markL, markR, third, most, version, headerBytes, header, bytesOf, packed, wordAt, wordsAt, marked, packing, unpacking}
 use Rattle.files.specs.Promises.{Bytes, PackedUnpacks, AcceptedArePacked}
 use Rattle.files.specs.declared.Form.{Form}
 use Rattle.files.proofs.Calls.{packed-length, wordsAt-length}
 
 -- a test that a call which succeeded passed: it held, or it did not
 module _ (b : Bool) (x : Outcome ℕ) (e : ℕ) (out : List ℕ) {n : ℕ} where
-  held : cond b x (refuses e out) .reply ≡ success n → (b ≡ true) × (cond b x (refuses e out) ≡ x)
+  held : cond b x (refuses e noPlace out) .reply ≡ success n → (b ≡ true) × (cond b x (refuses e noPlace out) ≡ x)
   held h = go b h
     where
-      go : (b : Bool) → cond b x (refuses e out) .reply ≡ success n → (b ≡ true) × (cond b x (refuses e out) ≡ x)
+      go : (b : Bool) → cond b x (refuses e noPlace out) .reply ≡ success n → (b ≡ true) × (cond b x (refuses e noPlace out) ≡ x)
       go true h = (refl, refl)
       go false h = never cc
 
-  failed : cond b (refuses e out) x .reply ≡ success n → (b ≡ false) × (cond b (refuses e out) x ≡ x)
+  failed : cond b (refuses e noPlace out) x .reply ≡ success n → (b ≡ false) × (cond b (refuses e noPlace out) x ≡ x)
   failed h = go b h
     where
-      go : (b : Bool) → cond b (refuses e out) x .reply ≡ success n → (b ≡ false) × (cond b (refuses e out) x ≡ x)
+      go : (b : Bool) → cond b (refuses e noPlace out) x .reply ≡ success n → (b ≡ false) × (cond b (refuses e noPlace out) x ≡ x)
       go true h = never cc
       go false h = (refl, refl)
 
@@ -42,8 +43,8 @@ fills : (ws out : List ℕ) (n : ℕ) → filled ws out .reply ≡ success n →
 unfolding filled
 fills ws out n h = go (ltb (length out) (length ws)) h
   where
-    go : (b : Bool) → cond b (refuses 9 out) (record { reply = success (length ws); output = ws ++ drop (length ws) out }) .reply ≡ success n
-        → Filled ws out n (cond b (refuses 9 out) (record { reply = success (length ws); output = ws ++ drop (length ws) out }))
+    go : (b : Bool) → cond b (refuses 9 noPlace out) (record { reply = success (length ws); output = ws ++ drop (length ws) out }) .reply ≡ success n
+        → Filled ws out n (cond b (refuses 9 noPlace out) (record { reply = success (length ws); output = ws ++ drop (length ws) out }))
     go true h = never cc
     go false h = let e : length ws ≡ n = cc in record { counted = sym e; output = ap (λ x. ws ++ drop x out) e }
 

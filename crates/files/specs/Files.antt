@@ -5,7 +5,8 @@ use mathlib.Core.List.{List, [], _∷_, _++_}
 use lib.Dec.{ltb, eqb}
 use lib.ListN.{length, getD}
 use Rattle.language.specs.Limits.{mostWords, mostImageWords}
-use Rattle.language.specs.Calls.{Outcome, refusal, filled}
+use Rattle.language.specs.Read.{noPlace}
+use Rattle.language.specs.Calls.{Outcome, refuses, filled}
 use Rattle.files.specs.declared.Form.{Form}
 use Rattle.files.specs.declared.Form.the-variants.{Rules, Images}
 
@@ -53,14 +54,11 @@ unfoldable pub wordsAt : List ℕ → ℕ → ℕ → List ℕ
 wordsAt bs i zero = []
 wordsAt bs i (suc n) = wordAt bs i ∷ wordsAt bs (i + 2) n
 
-abbrev pub refuses : ℕ → List ℕ → Outcome ℕ
-refuses e out = record { reply = refusal e; output = out }
-
 -- "Packing tests 1, 2, 9." Success gives "the bytes written".
 unfoldable pub packing : Form → List ℕ → List ℕ → Outcome ℕ
 packing f ws out =
-    cond (eqb (length ws) 0) (refuses 1 out)
-    (cond (ltb (most f) (length ws)) (refuses 2 out)
+    cond (eqb (length ws) 0) (refuses 1 noPlace out)
+    (cond (ltb (most f) (length ws)) (refuses 2 noPlace out)
     (filled (packed f ws) out))
 
 -- 10: "file under 7 bytes, or its mark is not that of the form asked for"
@@ -73,9 +71,9 @@ unpacking f bs out =
     cond (marked f bs)
     (cond (eqb (wordAt bs 3) version)
     (cond (eqb (length bs) (headerBytes + 2 * wordAt bs 5))
-    (cond (eqb (wordAt bs 5) 0) (refuses 1 out)
-    (cond (ltb (most f) (wordAt bs 5)) (refuses 2 out)
+    (cond (eqb (wordAt bs 5) 0) (refuses 1 noPlace out)
+    (cond (ltb (most f) (wordAt bs 5)) (refuses 2 noPlace out)
     (filled (wordsAt bs headerBytes (wordAt bs 5)) out)))
-    (refuses 12 out))
-    (refuses 11 out))
-    (refuses 10 out)
+    (refuses 12 noPlace out))
+    (refuses 11 noPlace out))
+    (refuses 10 noPlace out)

@@ -91,14 +91,14 @@ pub fn pack(out: &mut [u8], form: Form, words: &[u16]) -> Answer
 {
     let count = words.len();
     if count == 0 {
-        return Answer::Refusal(language::NO_WORDS);
+        return Answer::Refusal(language::NO_WORDS, language::NO_PLACE);
     }
     if most_words(form) < count {
-        return Answer::Refusal(language::TOO_MANY_WORDS);
+        return Answer::Refusal(language::TOO_MANY_WORDS, language::NO_PLACE);
     }
     let size = HEADER + 2 * count;
     if out.len() < size {
-        return Answer::Refusal(language::NO_ROOM);
+        return Answer::Refusal(language::NO_ROOM, language::NO_PLACE);
     }
     put_header(out, form, count as u16);
     put_words(out, words);
@@ -153,23 +153,23 @@ pub fn unpack(out: &mut [u16], form: Form, bytes: &[u8]) -> Answer
     ensures { λ r. ⌜ told r (now (out .exit)) ≡ unpacking form (now (bytes .entry)) (now (out .entry)) ⌝ }
 {
     if !has_mark(bytes, form) {
-        return Answer::Refusal(language::WRONG_MARK);
+        return Answer::Refusal(language::WRONG_MARK, language::NO_PLACE);
     }
     if word_at(bytes, VERSION_AT) != VERSION {
-        return Answer::Refusal(language::WRONG_VERSION);
+        return Answer::Refusal(language::WRONG_VERSION, language::NO_PLACE);
     }
     let count = word_at(bytes, COUNT_AT) as usize;
     if bytes.len() != HEADER + 2 * count {
-        return Answer::Refusal(language::WRONG_LENGTH);
+        return Answer::Refusal(language::WRONG_LENGTH, language::NO_PLACE);
     }
     if count == 0 {
-        return Answer::Refusal(language::NO_WORDS);
+        return Answer::Refusal(language::NO_WORDS, language::NO_PLACE);
     }
     if most_words(form) < count {
-        return Answer::Refusal(language::TOO_MANY_WORDS);
+        return Answer::Refusal(language::TOO_MANY_WORDS, language::NO_PLACE);
     }
     if out.len() < count {
-        return Answer::Refusal(language::NO_ROOM);
+        return Answer::Refusal(language::NO_ROOM, language::NO_PLACE);
     }
     take_words(out, bytes, HEADER, count);
     Answer::Count(count)

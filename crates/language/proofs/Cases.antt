@@ -13,7 +13,7 @@ use Rattle.language.specs.Sub.{sub}
 use Rattle.language.specs.Run.{atom, rev, itself, count}
 use Rattle.language.specs.Image.{downto, passing, image}
 use Rattle.language.specs.Kinds.{headOf}
-use Rattle.language.specs.Read.{Reading, accepted, refused, then, made, second, many, armsOf, opened, term, read}
+use Rattle.language.specs.Read.{Reading, accepted, refused, then, made, second, many, armsOf, opened, term, ended, read}
 use Rattle.language.specs.Calls.{Reply, success, refusal, filled, written}
 use Rattle.language.specs.Cases.{Result, Case, Said, Prints, ComesTo, Meets, worked, Each, WorkedRules}
 use Rattle.language.proofs.Eval.{Ran, eval}
@@ -41,16 +41,17 @@ same-is (x ∷ xs) (y ∷ ys) h = let p = both (eqb x y) (same xs ys) h in ap₂
 
 same-reply : Reply ℕ → Reply ℕ → Bool
 same-reply (success m) (success n) = eqb m n
-same-reply (success m) (refusal n) = false
-same-reply (refusal m) (success n) = false
-same-reply (refusal m) (refusal n) = eqb m n
+same-reply (success m) (refusal e p) = false
+same-reply (refusal e p) (success n) = false
+same-reply (refusal e p) (refusal f q) = eqb e f && eqb p q
 
 same-reply-is : (r q : Reply ℕ) → T (same-reply r q) → r ≡ q
 unfolding same-reply
 same-reply-is (success m) (success n) h = ap success (eqb→eq m n h)
-same-reply-is (success m) (refusal n) h = absurd h
-same-reply-is (refusal m) (success n) h = absurd h
-same-reply-is (refusal m) (refusal n) h = ap refusal (eqb→eq m n h)
+same-reply-is (success m) (refusal e p) h = absurd h
+same-reply-is (refusal e p) (success n) h = absurd h
+same-reply-is (refusal e p) (refusal f q) h =
+    let b = both (eqb e f) (eqb p q) h in ap₂ refusal (eqb→eq e f (b .0)) (eqb→eq p q (b .1))
 
 -- what is said of a case, by a test and a law that turns the test into the fact
 said : {A : Type 0} → Option A → (A → Bool) → Bool
@@ -121,5 +122,5 @@ tests-is [] h = tt
 tests-is (c ∷ cs) h = let p = both (test c) (tests cs) h in (test-is c (p .0), tests-is cs (p .1))
 
 pub worked-rules : WorkedRules
-unfolding tests read term then made second many armsOf opened headOf written filled words image passing downto atom size sub rev itself eval count
+unfolding tests read ended term then made second many armsOf opened headOf written filled words image passing downto atom size sub rev itself eval count
 worked-rules = tests-is worked tt

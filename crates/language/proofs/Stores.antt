@@ -8,6 +8,7 @@ use native.Mathlib.Omega.{arith}
 use lib.ListN.{length, drop, set}
 use lib.Seq.{sets, sets-eq}
 use borrow.Author.Tests.{lt-ltb, le-ltb}
+use Rattle.language.specs.Read.{noPlace}
 use Rattle.language.specs.Calls.{replyOf, told, filled}
 use Rattle.language.specs.declared.Answer.the-variants.{Count, Refusal}
 
@@ -25,7 +26,7 @@ store-last l at xs v e k = rw (e, k, sets-append l at xs (v ∷ []))
 pub at-front : (l ws : List ℕ) → length ws ≤ length l → sets l 0 ws ≡ ws ++ drop (length ws) l
 at-front l ws h = let e : 0 + length ws ≡ length ws = omega arith in sets-eq ws l 0 (omega arith) ∙ ap (λ (n : ℕ). ws ++ drop n l) e
 
-pub filled-short : (ws out : List ℕ) → length out < length ws → told (Refusal 9) out ≡ filled ws out
+pub filled-short : (ws out : List ℕ) → length out < length ws → told (Refusal 9 noPlace) out ≡ filled ws out
 unfolding filled replyOf
 filled-short ws out h = simp (lt-ltb _ _ h)
 

@@ -1,5 +1,5 @@
--- The worked rules A to N of document 01, "Worked rules", in one table, and what is claimed of each of them. (Case O and larger rules are run by a
--- program.)
+-- The worked rules A to N of document 01, "Worked rules", in one table, and what is claimed of each of them; refusals with their places (document 02,
+-- Wish 1). (Case O and larger rules are run by a program.)
 use Prim.Native.Nat.{ℕ}
 use mathlib.Core.List.{List, [], _∷_}
 use mathlib.Core.Option.{Option, some, none}
@@ -9,7 +9,7 @@ use Rattle.language.specs.Term.{images, Term}
 use Rattle.language.specs.Words.{words}
 use Rattle.language.specs.Run.{Run, count}
 use Rattle.language.specs.Image.{image}
-use Rattle.language.specs.Read.{Reading, accepted, refused, read}
+use Rattle.language.specs.Read.{noPlace, Reading, accepted, refused, read}
 use Rattle.language.specs.Calls.{Reply, success, refusal, written}
 
 -- the words of a value, and the applications of the image's run that comes to it
@@ -86,7 +86,8 @@ imageB =
     ∷ 0x0401 ∷ 0x0900 ∷ 0x0600 ∷ 0x0000 ∷ 0x0201 ∷ 0x0402 ∷ 0x0901 ∷ 0x0902
     ∷ 0x0900 ∷ 0x0201 ∷ 0x0900 ∷ []
 
--- A to G, B's image, H to M, and N at 7 and at 8 words
+-- A to G, B's image, H to M, and N at 7 and at 8 words; then faults in the midst of a rule: a constructor's second word and one that is missing, a
+-- later argument, an arm's head and its second word
 abbrev pub worked : List Case
 worked =
     runs caseA 8 (0x0600 ∷ 0x0000 ∷ []) 2
@@ -97,14 +98,19 @@ worked =
     ∷ runs caseF 64 (0x0600 ∷ 0x0000 ∷ []) 20
     ∷ runs caseG 10 caseG 2
     ∷ prints caseB imageB
-    ∷ replies [] 100 (refusal 1)
-    ∷ replies (0x0100 ∷ []) 100 (refusal 7)
-    ∷ replies (0x0401 ∷ 0x0201 ∷ 0x0100 ∷ []) 100 (refusal 3)
-    ∷ replies (0x0200 ∷ 0x0100 ∷ []) 100 (refusal 5)
-    ∷ replies (0x0600 ∷ 0x0000 ∷ 0x0600 ∷ []) 100 (refusal 8)
-    ∷ replies (0x0A00 ∷ []) 100 (refusal 4)
-    ∷ replies caseA 7 (refusal 9)
+    ∷ replies [] 100 (refusal 1 noPlace)
+    ∷ replies (0x0100 ∷ []) 100 (refusal 7 0)
+    ∷ replies (0x0401 ∷ 0x0201 ∷ 0x0100 ∷ []) 100 (refusal 3 3)
+    ∷ replies (0x0200 ∷ 0x0100 ∷ []) 100 (refusal 5 0)
+    ∷ replies (0x0600 ∷ 0x0000 ∷ 0x0600 ∷ []) 100 (refusal 8 2)
+    ∷ replies (0x0A00 ∷ []) 100 (refusal 4 0)
+    ∷ replies caseA 7 (refusal 9 noPlace)
     ∷ replies caseA 8 (success 8)
+    ∷ replies (0x0600 ∷ 0x0009 ∷ []) 100 (refusal 5 1)
+    ∷ replies (0x0600 ∷ []) 100 (refusal 3 1)
+    ∷ replies (0x0402 ∷ 0x0201 ∷ 0x0100 ∷ 0x0600 ∷ 0x0000 ∷ 0x0101 ∷ []) 100 (refusal 7 5)
+    ∷ replies (0x0701 ∷ 0x0600 ∷ 0x0000 ∷ 0x0600 ∷ []) 100 (refusal 4 3)
+    ∷ replies (0x0701 ∷ 0x0600 ∷ 0x0000 ∷ 0x0800 ∷ 0x0009 ∷ []) 100 (refusal 5 4)
     ∷ []
 
 -- P holds of each of them

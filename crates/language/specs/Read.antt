@@ -1,5 +1,6 @@
 -- Reading a rule: document 01, "Checks in order". "The words are read from first to last, and the first fault met is the reply."
--- A place is the index of a word.
+-- A place is the index of a word. Document 02, Wish 1: "Refusals 3 to 8 shall carry the place of the word tested, counted from 0; 3 carries the
+-- number of words given. All other refusals carry place 0."
 use Prim.Native.Nat.{ℕ, zero, suc, _+_, _%_}
 use mathlib.Core.Bool.{cond}
 use mathlib.Core.List.{List}
@@ -14,7 +15,11 @@ use Rattle.language.specs.Term.{Term, Terms, Arms, var, fun, call, bind,
 use Rattle.language.specs.Kinds.{mostArguments, atTerm, atArm, headOf}
 use Rattle.language.specs.Limits.{deepest, mostWords}
 
--- what reading gives: a thing and the place after it, or a fault: its number, and the place of the word tested
+-- "All other refusals carry place 0."
+abbrev pub noPlace : ℕ
+noPlace = 0
+
+-- what reading gives: a thing and the place after it, or a fault: its number, and its place
 pub data Got (A : Type 0) : Type 0 where
   found : A → ℕ → Got A
   fault : ℕ → ℕ → Got A
@@ -29,9 +34,9 @@ unfoldable pub made : {A B : Type 0} → (A → B) → Got A → Got B
 made g (found a to) = found (g a) to
 made g (fault e p) = fault e p
 
--- the word at a place; 3: "a word is needed and none is left"
+-- the word at a place; 3: "a word is needed and none is left"; "3 carries the number of words given"
 abbrev pub word : {A : Type 0} → List ℕ → ℕ → (ℕ → Got A) → Got A
-word s at f = cond (ltb at (length s)) (f (getD s at 0)) (fault 3 at)
+word s at f = cond (ltb at (length s)) (f (getD s at 0)) (fault 3 (length s))
 
 -- read on with what the head at a place opens
 abbrev pub headed : {A : Type 0} → Head → ℕ → (Row → Got A) → Got A
@@ -71,7 +76,7 @@ unfoldable pub term : List ℕ → ℕ → ℕ → ℕ → Got Term
 term s zero n at = word s at (λ w. fault 6 at)
 term s (suc d) n at = word s at (λ w. headed (headOf atTerm w) at (λ r. opened s (term s d) n at (w % 256) (r .binds) (r .parts)))
 
--- what reading a sequence of words as a rule comes to: its term, or the refusal's number and the place of the word tested
+-- what reading a sequence of words as a rule comes to: its term, or the refusal's number and its place
 pub data Reading : Type 0 where
   accepted : Term → Reading
   refused : ℕ → ℕ → Reading
@@ -80,9 +85,13 @@ abbrev pub reading : Got Term → Reading
 reading (found t to) = accepted t
 reading (fault e p) = refused e p
 
--- "Lengths first: 1, then 2." "After the rule's last word: 8."; "words left over; the first of them is the word tested"
+-- "After the rule's last word: 8."; "words left over; the first of them is the word tested"
+unfoldable pub ended : List ℕ → Term → ℕ → Got Term
+ended s t to = cond (ltb to (length s)) (fault 8 to) (found t to)
+
+-- "Lengths first: 1, then 2." "Then the words are read from first to last"
 unfoldable pub read : List ℕ → Reading
 read s = reading
-    (cond (eqb (length s) 0) (fault 1 0)
-    (cond (ltb mostWords (length s)) (fault 2 0)
-    (then (term s deepest 0 0) (λ t to. cond (ltb to (length s)) (fault 8 to) (found t to)))))
+    (cond (eqb (length s) 0) (fault 1 noPlace)
+    (cond (ltb mostWords (length s)) (fault 2 noPlace)
+    (then (term s deepest 0 0) (ended s))))

@@ -41,6 +41,9 @@ pub const WRONG_VERSION: u8 = 11;
 
 pub const WRONG_LENGTH: u8 = 12;
 
+// The place of a refusal that tests no word.
+pub const NO_PLACE: usize = 0;
+
 // Where a head may stand in a rule.
 const NOWHERE: u8 = 0;
 
@@ -153,10 +156,10 @@ pub enum Head {
     Opens(Row),
 }
 
-// A call's reply: the count that success gives, or the refusal's number.
+// A call's reply: the count that success gives; or a refusal's number, and the place of the word tested.
 pub enum Answer {
     Count(usize),
-    Refusal(u8),
+    Refusal(u8, usize),
 }
 
 // The row of a head word's kind.

@@ -9,11 +9,12 @@ use lib.ListN.{length, getD, drop, set, length-append, drop-of-length-le}
 use lib.Seq.{sets, drop-cons}
 use borrow.Author.Tests.{lt-ltb, le-ltb, eq-eqb, ne-eqb}
 use Rattle.io.specs.Digits.{digits}
+use Rattle.language.specs.Read.{noPlace}
 use Rattle.language.specs.Calls.{Outcome, replyOf, told, filled}
 use Rattle.language.specs.declared.Answer.{Answer}
 use Rattle.language.specs.declared.Answer.the-variants.{Count, Refusal}
 use Rattle.language.proofs.Stores.{sets-append, store-last, filled-short, filled-whole}
-use Rattle.listing.specs.Text.{space, newline, hexDigit, endOf, wordText, listed, placesOf, lineText, replyText}
+use Rattle.listing.specs.Text.{space, newline, hexDigit, endOf, wordText, listed, placesOf, numberText, okText, noText, line, replyText}
 
 -- a digit
 pub below-ten : (d : ℕ) → d < 10 → 48 + d ≡ hexDigit d
@@ -92,60 +93,81 @@ digit-stored l at (suc k) n {o} z e =
     let f : o ≡ sets l at d = subst (λ (x : ℕ). o ≡ sets l at (digits 10 x (n / 10))) q e in
     store-last l at d (48 + n % 10) f p ∙ simp (lt-ltb (n % 10) 10 (omega arith))
 
--- a line
-pub line-stored : (l : List ℕ) (a b n k : ℕ) {o : List ℕ} → k ≡ placesOf n → o ≡ sets (set (set (set l 0 a) 1 b) 2 space) 3 (digits 10 k n)
-    → set o (k + 3) newline ≡ sets l 0 (lineText a b n)
-unfolding lineText
-line-stored l a b n k {o} e f =
-    let p : k + 3 ≡ 3 + length (digits 10 k n) = omega (arith, digits-length k n) in
-    store-last (set (set (set l 0 a) 1 b) 2 space) 3 (digits 10 k n) newline f p
-    ∙ ap (λ (x : ℕ). sets (set (set (set l 0 a) 1 b) 2 space) 3 (digits 10 x n ++ (newline ∷ []))) e
+-- a space and a number, and the letters before them
+pub number-stored : (l : List ℕ) (at n : ℕ) {k : ℕ} {o : List ℕ} → k ≡ placesOf n → o ≡ sets (set l at space) (at + 1) (digits 10 k n)
+    → o ≡ sets l at (numberText n)
+unfolding numberText
+number-stored l at n e f = rw (f, e) (simp towards-suc)
 
-line-length : (a b n : ℕ) → length (lineText a b n) ≡ placesOf n + 4
-unfolding lineText
-line-length a b n = simp length-append (omega (arith, digits-length (placesOf n) n))
+pub start-stored : (l : List ℕ) (a b n : ℕ) {o : List ℕ} → o ≡ sets (set (set l 0 a) 1 b) 2 (numberText n) → o ≡ sets l 0 (a ∷ b ∷ numberText n)
+start-stored l a b n e = e
+
+number-length : (n : ℕ) → length (numberText n) ≡ placesOf n + 1
+unfolding numberText
+number-length n = omega (arith, digits-length (placesOf n) n)
+
+-- a run behind what was stored at the front
+after : (l xs ys : List ℕ) {o o' : List ℕ} {i : ℕ} → o ≡ sets l 0 xs → i ≡ length xs → o' ≡ sets o i ys → o' ≡ sets l 0 (xs ++ ys)
+after l xs ys e k f =
+    let z : 0 + length xs ≡ length xs = omega arith in
+    rw (f, e, k) (sym (sets-append l 0 xs ys ∙ ap (λ (x : ℕ). sets (sets l 0 xs) x ys) z))
 
 listed-length : (n i : ℕ) (ws : List ℕ) → length (listed n i ws) ≡ 5 * length ws
 unfolding listed
 listed-length n i [] = refl
 listed-length n i (w ∷ ws) = omega (arith, listed-length n (i + 1) ws)
 
--- the reply of a refusal
-module _ (a b n : ℕ) (out : List ℕ) {k : ℕ} (e : k ≡ placesOf n) where
-  pub line-short : length out < k + 4 → told (Refusal 9) out ≡ filled (lineText a b n) out
-  line-short h = filled-short (lineText a b n) out (omega (arith, line-length a b n))
+-- a line: its start is stored, and its end behind it
+line-stored : (out start : List ℕ) {o : List ℕ} {n : ℕ} → o ≡ sets out 0 start → n ≡ length start → set o n newline ≡ sets out 0 (line start)
+line-stored out start e k = store-last out 0 start newline e (omega arith)
 
-  pub line-whole : {o : List ℕ} → k + 4 ≤ length out → o ≡ sets out 0 (lineText a b n) → told (Count (k + 4)) o ≡ filled (lineText a b n) out
-  line-whole h f = filled-whole (lineText a b n) out (omega (arith, line-length a b n)) (omega (arith, line-length a b n)) f
+-- the reply of a refusal
+module _ (e p : ℕ) (out : List ℕ) {k j : ℕ} (x : k ≡ placesOf e) (y : j ≡ placesOf p) where
+  refusal-length : length (noText e ++ numberText p) ≡ k + 3 + 1 + j
+  refusal-length = simp length-append (omega (arith, number-length e, number-length p))
+
+  ended : length (line (noText e ++ numberText p)) ≡ k + 3 + 1 + j + 1
+  ended = simp length-append (omega (arith, number-length e, number-length p))
+
+  pub refusal-short : length out ≤ k + 3 + 1 + j → told (Refusal 9 noPlace) out ≡ filled (line (noText e ++ numberText p)) out
+  refusal-short h = filled-short (line (noText e ++ numberText p)) out (omega (arith, ended))
+
+  pub refusal-whole : {o o' : List ℕ} → k + 3 + 1 + j < length out → o ≡ sets out 0 (noText e) → o' ≡ sets o (k + 3) (numberText p)
+      → told (Count (k + 3 + 1 + j + 1)) (set o' (k + 3 + 1 + j) newline) ≡ filled (line (noText e ++ numberText p)) out
+  refusal-whole h f g =
+      filled-whole (line (noText e ++ numberText p)) out (omega (arith, ended)) (sym ended)
+      (line-stored out (noText e ++ numberText p) (after out (noText e) (numberText p) f (omega (arith, number-length e)) g) (sym refusal-length))
 
 -- the reply with an image's words
-module _ (a b n : ℕ) (ws out : List ℕ) {k : ℕ} (e : k ≡ placesOf n) where
-  text-length : length (lineText a b n ++ listed (length ws) 0 ws) ≡ k + 4 + 5 * length ws
-  text-length = simp length-append (omega (arith, line-length a b n, listed-length (length ws) 0 ws))
+module _ (n : ℕ) (ws out : List ℕ) {k : ℕ} (e : k ≡ placesOf n) where
+  start-length : length (okText n) ≡ k + 3
+  start-length = omega (arith, number-length n)
 
-  pub line-too-long : length out < k + 4 → told (Refusal 9) out ≡ filled (lineText a b n ++ listed (length ws) 0 ws) out
-  line-too-long h = filled-short (lineText a b n ++ listed (length ws) 0 ws) out (omega (arith, text-length))
+  text-length : length (line (okText n) ++ listed (length ws) 0 ws) ≡ k + 3 + 1 + 5 * length ws
+  text-length = simp length-append (omega (arith, number-length n, listed-length (length ws) 0 ws))
 
-  pub words-too-many : k + 4 ≤ length out → (length out - (k + 4)) / 5 < length ws
-      → told (Refusal 9) out ≡ filled (lineText a b n ++ listed (length ws) 0 ws) out
-  words-too-many l h = filled-short (lineText a b n ++ listed (length ws) 0 ws) out (omega (arith, text-length))
+  pub image-short : length out ≤ k + 3 → told (Refusal 9 noPlace) out ≡ filled (line (okText n) ++ listed (length ws) 0 ws) out
+  image-short h = filled-short (line (okText n) ++ listed (length ws) 0 ws) out (omega (arith, text-length))
 
-  pub text-whole : {o o' : List ℕ} → k + 4 ≤ length out → length ws ≤ (length out - (k + 4)) / 5 → o' ≡ sets out 0 (lineText a b n) → o ≡ sets o' (k + 4) (listed (length ws) 0 ws)
-      → told (Count (k + 4 + 5 * length ws)) o ≡ filled (lineText a b n ++ listed (length ws) 0 ws) out
-  text-whole {o} {o'} l h f g =
-      let p : k + 4 ≡ 0 + length (lineText a b n) = omega (arith, line-length a b n) in
-      let q : o ≡ sets out 0 (lineText a b n ++ listed (length ws) 0 ws)
-      = g ∙ ap (λ (x : ℕ). sets o' x (listed (length ws) 0 ws)) p ∙ ap (λ (x : List ℕ). sets x (0 + length (lineText a b n)) (listed (length ws) 0 ws)) f
-      ∙ sym (sets-append out 0 (lineText a b n) (listed (length ws) 0 ws)) in
-      filled-whole (lineText a b n ++ listed (length ws) 0 ws) out (omega (arith, text-length)) (sym text-length) q
+  pub words-too-many : k + 3 < length out → (length out - (k + 3) - 1) / 5 < length ws
+      → told (Refusal 9 noPlace) out ≡ filled (line (okText n) ++ listed (length ws) 0 ws) out
+  words-too-many l h = filled-short (line (okText n) ++ listed (length ws) 0 ws) out (omega (arith, text-length))
+
+  pub image-whole : {o o' : List ℕ} → k + 3 < length out → length ws ≤ (length out - (k + 3) - 1) / 5 → o ≡ sets out 0 (okText n)
+      → o' ≡ sets (set o (k + 3) newline) (k + 3 + 1) (listed (length ws) 0 ws)
+      → told (Count (k + 3 + 1 + 5 * length ws)) o' ≡ filled (line (okText n) ++ listed (length ws) 0 ws) out
+  image-whole l h f g =
+      filled-whole (line (okText n) ++ listed (length ws) 0 ws) out (omega (arith, text-length)) (sym text-length)
+      (after out (line (okText n)) (listed (length ws) 0 ws) (line-stored out (okText n) f (sym start-length))
+      (simp length-append (omega (arith, start-length))) g)
 
 -- the whole answer, by the reply
-pub refusal-shown : {a : Answer} {e : ℕ} {x : Outcome ℕ} (ws out : List ℕ) → x ≡ filled (lineText 110 111 e) out → a ≡ Refusal e
+pub refusal-shown : {a : Answer} {e p : ℕ} {x : Outcome ℕ} (ws out : List ℕ) → x ≡ filled (line (noText e ++ numberText p)) out → a ≡ Refusal e p
     → x ≡ filled (replyText (replyOf a) ws) out
 unfolding replyText replyOf
 refusal-shown ws out k h = rw h k
 
-pub image-shown : {a : Answer} {n : ℕ} {x : Outcome ℕ} (ws out : List ℕ) → x ≡ filled (lineText 111 107 n ++ listed (length ws) 0 ws) out → a ≡ Count n
+pub image-shown : {a : Answer} {n : ℕ} {x : Outcome ℕ} (ws out : List ℕ) → x ≡ filled (line (okText n) ++ listed (length ws) 0 ws) out → a ≡ Count n
     → x ≡ filled (replyText (replyOf a) ws) out
 unfolding replyText replyOf
 image-shown ws out k h = rw h k
@@ -165,10 +187,11 @@ pub ruleset ways = (
   five-digits,
   no-digits,
   digit-stored,
-  line-stored,
-  line-short,
-  line-whole,
-  line-too-long,
+  number-stored,
+  start-stored,
+  refusal-short,
+  refusal-whole,
+  image-short,
   words-too-many,
-  text-whole,
+  image-whole,
 )

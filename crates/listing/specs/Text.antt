@@ -1,4 +1,4 @@
--- What the bench program prints: document 01, "Worked rules", its last paragraph. Bytes are those of ASCII.
+-- What the bench program prints: document 01, "Worked rules", its last paragraph, and document 02, Wish 1. Bytes are those of ASCII.
 use Prim.Native.Nat.{ℕ, _+_, _/_, _%_}
 use mathlib.Core.Bool.{cond, _||_}
 use mathlib.Core.List.{List, [], _∷_, _++_}
@@ -34,11 +34,22 @@ listed n i (w ∷ ws) = wordText w (endOf n i) ++ listed n (i + 1) ws
 abbrev pub placesOf : ℕ → ℕ
 placesOf n = cond (ltb n 10) 1 (cond (ltb n 100) 2 (cond (ltb n 1000) 3 (cond (ltb n 10000) 4 5)))
 
--- two letters, a number and the end of the line
-unfoldable pub lineText : ℕ → ℕ → ℕ → List ℕ
-lineText a b n = a ∷ b ∷ space ∷ (digits 10 (placesOf n) n ++ (newline ∷ []))
+-- a space and a number
+unfoldable pub numberText : ℕ → List ℕ
+numberText n = space ∷ digits 10 (placesOf n) n
 
--- "prints `ok` and the image's count, then the image's words"; "A refusal prints `no` and the number."
+-- `ok` and a number
+abbrev pub okText : ℕ → List ℕ
+okText n = 111 ∷ 107 ∷ numberText n
+
+-- `no` and a number
+abbrev pub noText : ℕ → List ℕ
+noText n = 110 ∷ 111 ∷ numberText n
+
+abbrev pub line : List ℕ → List ℕ
+line t = t ++ (newline ∷ [])
+
+-- "prints `ok` and the image's count, then the image's words"; "A refusal prints `no` and the number", and "the place after the number"
 unfoldable pub replyText : Reply ℕ → List ℕ → List ℕ
-replyText (success n) ws = lineText 111 107 n ++ listed (length ws) 0 ws
-replyText (refusal e) ws = lineText 110 111 e
+replyText (success n) ws = line (okText n) ++ listed (length ws) 0 ws
+replyText (refusal e p) ws = line (noText e ++ numberText p)

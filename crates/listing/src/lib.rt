@@ -2,12 +2,12 @@
 use language::Answer;
 ghost use mathlib.Core.Path.{_≡_};
 ghost use Prim.Native.Nat.{_+_, _*_, _≤_, _<_};
-ghost use mathlib.Core.List.{_++_};
+ghost use mathlib.Core.List.{_∷_, _++_};
 ghost use lib.ListN.{length};
 ghost use lib.Seq.{sets};
 ghost use Rattle.io.specs.Digits.{digits};
 ghost use Rattle.language.specs.Calls.{replyOf, told, filled};
-ghost use Rattle.listing.specs.Text.{hexDigit, endOf, wordText, listed, placesOf, lineText, replyText};
+ghost use Rattle.listing.specs.Text.{hexDigit, endOf, wordText, listed, placesOf, numberText, okText, noText, line, replyText};
 
 const SPACE: u8 = b' ';
 
@@ -18,8 +18,8 @@ const WORD_BYTES: usize = 5;
 
 const WORDS_TO_A_LINE: usize = 8;
 
-// A line's bytes besides its number: two letters, a space and the end of the line.
-const LINE_BYTES: usize = 4;
+// The bytes before a line's first digit: two letters and a space.
+const START_BYTES: usize = 3;
 
 fn hex_digit(d: u16) -> u8
     requires { ⌜ d < 16 ⌝ }
@@ -101,44 +101,58 @@ fn put_digits(out: &mut [u8], at: usize, k: usize, n: usize)
     out[at + k - 1] = b'0' + (n % 10) as u8;
 }
 
-fn put_line(out: &mut [u8], a: u8, b: u8, n: usize, k: usize)
-    requires { ⌜ (k ≡ placesOf n) × (k + 4 ≤ length (now out)) ⌝ }
-    ensures { λ r. ⌜ now (out .exit) ≡ sets (now (out .entry)) 0 (lineText a b n) ⌝ }
+// A space and a number of k digits.
+fn put_number(out: &mut [u8], at: usize, n: usize, k: usize)
+    requires { ⌜ (k ≡ placesOf n) × (at + k + 1 ≤ length (now out)) ⌝ }
+    ensures { λ r. ⌜ now (out .exit) ≡ sets (now (out .entry)) at (numberText n) ⌝ }
+{
+    out[at] = SPACE;
+    put_digits(out, at + 1, k, n);
+}
+
+// The start of a line: two letters and a number of k digits.
+fn put_start(out: &mut [u8], a: u8, b: u8, n: usize, k: usize)
+    requires { ⌜ (k ≡ placesOf n) × (k + 3 ≤ length (now out)) ⌝ }
+    ensures { λ r. ⌜ now (out .exit) ≡ sets (now (out .entry)) 0 (a ∷ b ∷ numberText n) ⌝ }
 {
     out[0] = a;
     out[1] = b;
-    out[2] = SPACE;
-    put_digits(out, 3, k, n);
-    out[k + 3] = NEWLINE;
+    put_number(out, 2, n, k);
 }
 
-fn show_refusal(out: &mut [u8], e: u8) -> Answer
-    ensures { λ r. ⌜ told r (now (out .exit)) ≡ filled (lineText 110 111 e) (now (out .entry)) ⌝ }
+// A refusal's number and its place.
+fn show_refusal(out: &mut [u8], e: u8, p: usize) -> Answer
+    ensures { λ r. ⌜ told r (now (out .exit)) ≡ filled (line (noText e ++ numberText p)) (now (out .entry)) ⌝ }
 {
-    let k = places(e as usize);
-    let size = k + LINE_BYTES;
-    if out.len() < size {
-        return Answer::Refusal(language::NO_ROOM);
+    let digits = places(e as usize);
+    let next = digits + START_BYTES;
+    let more = places(p);
+    let end = next + 1 + more;
+    if out.len() <= end {
+        return Answer::Refusal(language::NO_ROOM, language::NO_PLACE);
     }
-    put_line(out, b'n', b'o', e as usize, k);
-    Answer::Count(size)
+    put_start(out, b'n', b'o', e as usize, digits);
+    put_number(out, next, p, more);
+    out[end] = NEWLINE;
+    Answer::Count(end + 1)
 }
 
+// An image's count and its words.
 fn show_image(out: &mut [u8], n: usize, words: &[u16]) -> Answer
-    ensures { λ r. ⌜ told r (now (out .exit)) ≡ filled (lineText 111 107 n ++ listed (length (now (words .entry))) 0 (now (words .entry))) (now (out .entry)) ⌝ }
+    ensures { λ r. ⌜ told r (now (out .exit)) ≡ filled (line (okText n) ++ listed (length (now (words .entry))) 0 (now (words .entry))) (now (out .entry)) ⌝ }
 {
-    let k = places(n);
-    let line = k + LINE_BYTES;
-    if out.len() < line {
-        return Answer::Refusal(language::NO_ROOM);
+    let digits = places(n);
+    let end = digits + START_BYTES;
+    if out.len() <= end {
+        return Answer::Refusal(language::NO_ROOM, language::NO_PLACE);
     }
-    if (out.len() - line) / WORD_BYTES < words.len() {
-        return Answer::Refusal(language::NO_ROOM);
+    if (out.len() - end - 1) / WORD_BYTES < words.len() {
+        return Answer::Refusal(language::NO_ROOM, language::NO_PLACE);
     }
-    let size = line + WORD_BYTES * words.len();
-    put_line(out, b'o', b'k', n, k);
-    put_words(out, line, words);
-    Answer::Count(size)
+    put_start(out, b'o', b'k', n, digits);
+    out[end] = NEWLINE;
+    put_words(out, end + 1, words);
+    Answer::Count(end + 1 + WORD_BYTES * words.len())
 }
 
 // The bench program's whole answer, at the front of the output: a line with the reply, and on success the image's words.
@@ -146,7 +160,7 @@ pub fn show(out: &mut [u8], answer: Answer, words: &[u16]) -> Answer
     ensures { λ r. ⌜ told r (now (out .exit)) ≡ filled (replyText (replyOf answer) (now (words .entry))) (now (out .entry)) ⌝ }
 {
     match answer {
-        Answer::Refusal(e) => show_refusal(out, e),
+        Answer::Refusal(e, p) => show_refusal(out, e, p),
         Answer::Count(n) => show_image(out, n, words),
     }
 }

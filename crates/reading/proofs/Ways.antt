@@ -71,7 +71,7 @@ module _ {r : Step} {to y : ℕ} {c : Bool} (h : r ≡ Next to c y) where
 
 -- a second word
 module _ (s : List ℕ) (at : ℕ) where
-  pub c-none : length s ≤ at → Not 3 at ≡ countOf (second s at)
+  pub c-none : length s ≤ at → Not 3 (length s) ≡ countOf (second s at)
   unfolding second countOf
   c-none h = simp (le-ltb _ _ h)
 
@@ -85,7 +85,7 @@ module _ (s : List ℕ) (at : ℕ) where
 
 -- an arm's two words
 module _ (s : List ℕ) (at : ℕ) where
-  pub h-none : length s ≤ at → Not 3 at ≡ countOf (arity s at)
+  pub h-none : length s ≤ at → Not 3 (length s) ≡ countOf (arity s at)
   unfolding arity countOf
   h-none h = simp (le-ltb _ _ h)
 
@@ -110,7 +110,7 @@ is-fault (found n i) h k = never cc
 is-fault (fault e p) h k = cc
 
 -- a term, up to its head
-pub t-none : (s : List ℕ) (d n at : ℕ) → length s ≤ at → No 3 at ≡ termStep (term s d n at)
+pub t-none : (s : List ℕ) (d n at : ℕ) → length s ≤ at → No 3 (length s) ≡ termStep (term s d n at)
 unfolding stepOf term
 t-none s zero n at h = simp (le-ltb _ _ h)
 t-none s (suc d) n at h = simp (le-ltb _ _ h)
@@ -212,8 +212,8 @@ module _ (s : List ℕ) (at : ℕ) (f : ℕ → ℕ → Got Arms) where
   unfolding arity then
   arity-then = go (ltb at (length s)) (headOf atArm (getD s at 0))
     where
-      go : (b : Bool) (h : Head) → cond b (headed h at (λ r. then (second s (at + 1)) f)) (fault 3 at)
-          ≡ then (cond b (headed h at (λ r. second s (at + 1))) (fault 3 at)) f
+      go : (b : Bool) (h : Head) → cond b (headed h at (λ r. then (second s (at + 1)) f)) (fault 3 (length s))
+          ≡ then (cond b (headed h at (λ r. second s (at + 1))) (fault 3 (length s))) f
       go true (Refused e) = refl
       go true (Opens r) = refl
       go false h = refl

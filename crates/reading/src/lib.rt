@@ -10,7 +10,7 @@ ghost use Rattle.language.specs.Kinds.{mostByte};
 ghost use Rattle.language.specs.Read.{second, many, armsOf, opened, term, read};
 ghost use Rattle.language.specs.Calls.{replyOf, checked, measured};
 ghost use Rattle.reading.specs.Steps.{aWord, small, termStep, termsStep, armsStep, arity, closed, countOf, wordsOf, grownOf, joinedOf, builtOf, Roomy};
-ghost use Rattle.reading.specs.Answers.{verdictOf, checkedReply};
+ghost use Rattle.reading.specs.Answers.{checkedReply};
 
 // The words of a variable's passing form, and those that each other form has besides its parts' passing forms and chains.
 const VARIABLE_WORDS: usize = 4;
@@ -39,28 +39,22 @@ const SAVED_WORDS: usize = 6;
 const LOW_BYTE: u16 = 256;
 
 // What reading a thing gives: the place after it, whether it is all atoms, and its words in an image (of a term the passing
-// form's, of a list the chain's); or a refusal's number and the place of the word tested.
+// form's, of a list the chain's); or a refusal's number and its place.
 enum Step {
     Next(usize, bool, usize),
     No(u8, usize),
 }
 
-// What reading a second word gives: a count and the place after it; or a refusal's number and the place of the word tested.
+// What reading a second word gives: a count and the place after it; or a refusal's number and its place.
 enum Count {
     Is(u16, usize),
     Not(u8, usize),
 }
 
-// What reading a rule gives: the words of its image; or a refusal's number and the place of the word tested.
-enum Verdict {
-    Words(usize),
-    No(u8, usize),
-}
-
-// The checking call's reply.
+// The checking call's reply: success; or a refusal's number and its place.
 pub enum Checked {
     Success,
-    Refusal(u8),
+    Refusal(u8, usize),
 }
 
 // A larger thing: z words more of a part before it and by words of its own; all atoms or not as told.
@@ -113,7 +107,7 @@ fn second_at(s: &[u16], at: usize) -> Count
     ensures { λ r. ⌜ r ≡ countOf (second (now (s .entry)) at) ⌝ }
 {
     if s.len() <= at {
-        return Count::Not(language::NONE_LEFT, at);
+        return Count::Not(language::NONE_LEFT, s.len());
     }
     let m = s[at];
     if (language::MOST_ARGUMENTS as u16) < m {
@@ -127,7 +121,7 @@ fn arity_at(s: &[u16], at: usize) -> Count
     ensures { λ r. ⌜ r ≡ countOf (arity (now (s .entry)) at) ⌝ }
 {
     if s.len() <= at {
-        return Count::Not(language::NONE_LEFT, at);
+        return Count::Not(language::NONE_LEFT, s.len());
     }
     match language::look(language::AT_ARM, s[at]) {
         Head::Refused(e) => Count::Not(e, at),
@@ -141,7 +135,7 @@ fn term_at(s: &[u16], at: usize, left: usize, bound: usize) -> Step
     ensures { λ r. ⌜ r ≡ termStep (term (now (s .entry)) left bound at) ⌝ }
 {
     if s.len() <= at {
-        return Step::No(language::NONE_LEFT, at);
+        return Step::No(language::NONE_LEFT, s.len());
     }
     if left == 0 {
         return Step::No(language::TOO_DEEP, at);
@@ -182,7 +176,7 @@ fn opened_at(s: &[u16], at: usize, left: usize, bound: usize, low: usize, row: R
             Step::Next(to, _, z) => grown(term_at(s, to, left, bound + binds), false, z, LET_WORDS),
         },
         Parts::CountAndArguments => match second_at(s, next) {
-            Count::Not(e, p) => Step::No(e, p),
+            Count::Not(e, second) => Step::No(e, second),
             Count::Is(m, to) => built(terms_at(s, to, left, bound, m as usize), m as usize),
         },
         Parts::SubjectAndArms => match term_at(s, next, left, bound) {
@@ -202,7 +196,7 @@ fn terms_at(s: &[u16], at: usize, left: usize, bound: usize, count: usize) -> St
         return Step::Next(at, true, 0);
     }
     match term_at(s, at, left, bound) {
-        Step::No(e, p) => Step::No(e, p),
+        Step::No(e, there) => Step::No(e, there),
         Step::Next(to, b, z) => joined(terms_at(s, to, left, bound, count - 1), b, z),
     }
 }
@@ -234,10 +228,10 @@ fn closed_at(s: &[u16], at: usize) -> Step
     ensures { λ r. ⌜ r ≡ termStep (closed (now (s .entry)) at) ⌝ }
 {
     if s.len() == 0 {
-        return Step::No(language::NO_WORDS, 0);
+        return Step::No(language::NO_WORDS, language::NO_PLACE);
     }
     if language::MOST_WORDS < s.len() {
-        return Step::No(language::TOO_MANY_WORDS, 0);
+        return Step::No(language::TOO_MANY_WORDS, language::NO_PLACE);
     }
     term_at(s, at, language::DEEPEST, 0)
 }
@@ -269,38 +263,28 @@ fn closed_first(s: &[u16]) -> Step
     closed_here(start(s))
 }
 
-// What a sequence of words comes to as a rule.
-fn judge(s: &[u16]) -> Verdict
-    ensures { λ r. ⌜ r ≡ verdictOf (read (now (s .entry))) ⌝ }
+// How many words the image of a rule has.
+pub fn measure(s: &[u16]) -> Answer
+    ensures { λ r. ⌜ replyOf r ≡ measured (read (now (s .entry))) ⌝ }
 {
     match closed_first(s) {
-        Step::No(e, p) => Verdict::No(e, p),
+        Step::No(e, p) => Answer::Refusal(e, p),
         Step::Next(to, _, z) => {
             if to < s.len() {
-                Verdict::No(language::LEFT_OVER, to)
+                Answer::Refusal(language::LEFT_OVER, to)
             } else {
-                Verdict::Words(z + IMAGE_WORDS)
+                Answer::Count(z + IMAGE_WORDS)
             }
         }
     }
 }
 
-// Whether the words are a rule.
+// Whether the words are a rule: they are where their image can be measured.
 pub fn check(s: &[u16]) -> Checked
     ensures { λ r. ⌜ checkedReply r ≡ checked (read (now (s .entry))) ⌝ }
 {
-    match judge(s) {
-        Verdict::No(e, _) => Checked::Refusal(e),
-        Verdict::Words(_) => Checked::Success,
-    }
-}
-
-// How many words the image of a rule has.
-pub fn measure(s: &[u16]) -> Answer
-    ensures { λ r. ⌜ replyOf r ≡ measured (read (now (s .entry))) ⌝ }
-{
-    match judge(s) {
-        Verdict::No(e, _) => Answer::Refusal(e),
-        Verdict::Words(n) => Answer::Count(n),
+    match measure(s) {
+        Answer::Refusal(e, p) => Checked::Refusal(e, p),
+        Answer::Count(_) => Checked::Success,
     }
 }

@@ -12,7 +12,7 @@ use borrow.Author.Tests.{ltb-true, ltb-false}
 use Rattle.language.specs.Term.{images, Term}
 use Rattle.language.specs.Words.{words}
 use Rattle.language.specs.Image.{image}
-use Rattle.language.specs.Read.{Reading, accepted, refused, read}
+use Rattle.language.specs.Read.{noPlace, Reading, accepted, refused, read}
 use Rattle.language.specs.Calls.{Outcome, replyOf, told, filled, written}
 use Rattle.language.specs.declared.Answer.{Answer}
 use Rattle.language.specs.declared.Answer.the-variants.{Count, Refusal}
@@ -41,12 +41,12 @@ determined (unpack g bs out) x y e f = same-told x y e f
 -- the definition's cases
 written-is : (ws out : List ℕ) (g : Reading) → read ws ≡ g → (a : Answer) × (o : List ℕ) × (told a o ≡ written g out) × Replied ws out a o
 unfolding written filled replyOf
-written-is ws out (refused e p) q = (Refusal e, out, refl, refusing q)
+written-is ws out (refused e p) q = (Refusal e p, out, refl, refusing q)
 written-is ws out (accepted t) q = go (ltb (length out) (length (words images (image t)))) refl
   where
     go : (b : Bool) → ltb (length out) (length (words images (image t))) ≡ b
         → (a : Answer) × (o : List ℕ) × (told a o ≡ written (accepted t) out) × Replied ws out a o
-    go true e = (Refusal 9, out, rw e, no-room q (ltb-true _ _ e))
+    go true e = (Refusal 9 noPlace, out, rw e, no-room q (ltb-true _ _ e))
     go false e = (
       Count (length (words images (image t))),
       words images (image t) ++ drop (length (words images (image t))) out,

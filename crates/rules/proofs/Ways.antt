@@ -9,7 +9,7 @@ use borrow.Author.Tests.{lt-ltb, le-ltb}
 use Rattle.language.specs.Term.{images, Term}
 use Rattle.language.specs.Words.{words}
 use Rattle.language.specs.Image.{image}
-use Rattle.language.specs.Read.{Reading, accepted, refused, read}
+use Rattle.language.specs.Read.{noPlace, Reading, accepted, refused, read}
 use Rattle.language.specs.Calls.{replyOf, told, measured, filled, written}
 use Rattle.language.specs.declared.Answer.{Answer}
 use Rattle.language.specs.declared.Answer.the-variants.{Count, Refusal}
@@ -18,10 +18,10 @@ use Rattle.writing.specs.Written.{Writable, SomeWritable, ImageWritten}
 use Rattle.trust.proofs.Accepted.{accepted-are-rules}
 
 -- what the measuring call's answer says of the reading
-measured-refusal : (g : Reading) {a : Answer} {e : ℕ} → replyOf a ≡ measured g → a ≡ Refusal e → (p : ℕ) × (g ≡ refused e p)
+measured-refusal : (g : Reading) {a : Answer} {e p : ℕ} → replyOf a ≡ measured g → a ≡ Refusal e p → g ≡ refused e p
 unfolding measured replyOf
 measured-refusal (accepted t) h k = never cc
-measured-refusal (refused n p) {a} {e} h k = let z : n ≡ e = cc in (p, rw z)
+measured-refusal (refused n i) h k = cc
 
 measured-count : (g : Reading) {a : Answer} {n : ℕ} → replyOf a ≡ measured g → a ≡ Count n
     → (t : Term) × (g ≡ accepted t) × (n ≡ length (words images (image t)))
@@ -40,7 +40,7 @@ module _ (ws out : List ℕ) {a : Answer} {n : ℕ} (h : replyOf a ≡ measured 
   pub w-room : n ≤ length out → SomeWritable out ws
   w-room l = let w = writable l in record { term = w .0; writable = w .1 }
 
-  pub w-short : length out < n → told (Refusal 9) out ≡ written (read ws) out
+  pub w-short : length out < n → told (Refusal 9 noPlace) out ≡ written (read ws) out
   unfolding written filled replyOf
   w-short l = let m = measured-count (read ws) h k in rw (m .1) (simp (lt-ltb (length out) (length (words images (image (m .0)))) (omega (arith, m .2))))
 
@@ -50,8 +50,9 @@ module _ (ws out : List ℕ) {a : Answer} {n : ℕ} (h : replyOf a ≡ measured 
       let w = writable l in
       rw (w .2) (simp (le-ltb (length out) (length (words images (image (w .0)))) (omega (arith, w .3)), i .count (w .0) (w .1), i .output (w .0) (w .1)))
 
-pub w-refused : (ws out : List ℕ) {a : Answer} {e : ℕ} → replyOf a ≡ measured (read ws) → a ≡ Refusal e → told (Refusal e) out ≡ written (read ws) out
+pub w-refused : (ws out : List ℕ) {a : Answer} {e p : ℕ} → replyOf a ≡ measured (read ws) → a ≡ Refusal e p
+    → told (Refusal e p) out ≡ written (read ws) out
 unfolding written replyOf
-w-refused ws out h k = let m = measured-refusal (read ws) h k in rw (m .1)
+w-refused ws out h k = rw (measured-refusal (read ws) h k)
 
 pub ruleset ways = (w-refused, w-room, w-short, w-whole)

@@ -8,7 +8,7 @@ use Rattle.language.specs.Words.{words}
 use Rattle.language.specs.Limits.{Ranged}
 use Rattle.language.specs.Run.{Run, count}
 use Rattle.language.specs.Image.{image, carried}
-use Rattle.language.specs.Read.{read, accepted, refused}
+use Rattle.language.specs.Read.{noPlace, read, accepted, refused}
 use Rattle.language.specs.declared.Answer.{Answer}
 use Rattle.language.specs.declared.Answer.the-variants.{Count, Refusal}
 use Rattle.meaning.specs.Promises.{applications, Comes}
@@ -19,15 +19,15 @@ abbrev pub Determined : Type 0
 Determined = (c : Call) (x y : Result c) → Allows c x → Allows c y → x ≡ y
 
 -- what comes of writing the words ws into the output out: the answer, and what the output then holds.
--- refusing: the refusal of the checks in order; "leaves all that was lent unchanged". no-room: "the lent output is shorter than what is to be
+-- refusing: the refusal of the checks in order, with the place of the word tested; "leaves all that was lent unchanged". no-room: "the lent output is shorter than what is to be
 -- written". writing: "the image fills the front of the output and every later word is unchanged".
 pub data Replied (ws out : List ℕ) : Answer → List ℕ → Type 0 where
-  refusing : {e p : ℕ} → read ws ≡ refused e p → Replied ws out (Refusal e) out
-  no-room : {t : Term} → read ws ≡ accepted t → length out < length (words images (image t)) → Replied ws out (Refusal 9) out
+  refusing : {e p : ℕ} → read ws ≡ refused e p → Replied ws out (Refusal e p) out
+  no-room : {t : Term} → read ws ≡ accepted t → length out < length (words images (image t)) → Replied ws out (Refusal 9 noPlace) out
   writing : {t : Term} {n : ℕ} {o : List ℕ} → read ws ≡ accepted t → n ≡ length (words images (image t)) → n ≤ length out
       → o ≡ words images (image t) ++ drop n out → Replied ws out (Count n) o
 
--- demand 1: every sequence of words and every lent output gets its reply, an image or a numbered refusal, and a refusal changes nothing
+-- demand 1: every sequence of words and every lent output gets its reply, an image or a numbered refusal with its place, and a refusal changes nothing
 abbrev pub Demand1 : Type 0
 Demand1 = (ws out o : List ℕ) (a : Answer) → Allows (write ws out) (a, o) → Replied ws out a o
 
@@ -35,7 +35,7 @@ Demand1 = (ws out o : List ℕ) (a : Answer) → Allows (write ws out) (a, o) �
 pub record Written (t : Term) (out o : List ℕ) (a : Answer) : Type 0 where
   pub fits : length (words images (image t)) ≤ length out → (a ≡ Count (length (words images (image t))))
       × (o ≡ words images (image t) ++ drop (length (words images (image t))) out)
-  pub longer : a ≡ Refusal 9 → length out < length (words images (image t))
+  pub longer : a ≡ Refusal 9 noPlace → length out < length (words images (image t))
 
 abbrev pub Demand2 : Type 0
 Demand2 = (ws out o : List ℕ) (a : Answer) (t : Term) → read ws ≡ accepted t → Allows (write ws out) (a, o) → Written t out o a

@@ -24,10 +24,10 @@ pub fn write(out: &mut [u16], words: &[u16]) -> Answer
     ensures { λ r. ⌜ Allows (Call.write (now (words .entry)) (now (out .entry))) (r, now (out .exit)) ⌝ }
 {
     match reading::measure(words) {
-        Answer::Refusal(e) => Answer::Refusal(e),
+        Answer::Refusal(e, p) => Answer::Refusal(e, p),
         Answer::Count(n) => {
             if out.len() < n {
-                return Answer::Refusal(language::NO_ROOM);
+                return Answer::Refusal(language::NO_ROOM, language::NO_PLACE);
             }
             Answer::Count(writing::write_image(out, words))
         }

@@ -17,7 +17,7 @@ use Rattle.language.specs.Words.{head, words, wordsᵗ, wordsᵃ}
 use Rattle.language.specs.Scope.{Scoped, Scopedᵗ, Scopedᵃ, s-var, s-fun, s-call, s-bind, s-con, s-cases, s-nil, s-cons, s-none, s-arm}
 use Rattle.language.specs.Limits.{deepest, mostWords, Ranged, Rangedᵗ, Rangedᵃ, r-var, r-fun, r-call, r-bind, r-con, r-cases, r-nil, r-cons, r-none, r-arm, depth, depthᵗ, depthᵃ, Rule}
 use Rattle.language.specs.Places.{Held}
-use Rattle.language.specs.Read.{Got, found, fault, then, made, headed, second, many, armsOf, opened, term, accepted, reading, read}
+use Rattle.language.specs.Read.{noPlace, Got, found, fault, then, made, headed, second, many, armsOf, opened, term, accepted, reading, ended, read}
 use Rattle.language.specs.declared.Row.{Row}
 use Rattle.language.specs.declared.Head.{Head}
 use Rattle.language.specs.declared.Head.the-variants.{Refused, Opens}
@@ -201,7 +201,7 @@ module _ (s : List ℕ) (d : ℕ) (p : ℕ → ℕ → Got Term) (good : (n at :
   pub arms-good : (n k at : ℕ) → Holds (Goodᵃ s d n k at) (armsOf s p n k at)
   unfolding armsOf
   arms-good n zero at = held none-good
-  arms-good n (suc k) at = holds-test (ltb at (length s)) _ 3 at (λ a. holds-head (headOf atArm (getD s at 0)) at _ (λ r e.
+  arms-good n (suc k) at = holds-test (ltb at (length s)) _ 3 (length s) (λ a. holds-head (headOf atArm (getD s at 0)) at _ (λ r e.
       let h = passed atArm (getD s at 0) r (omega arith) e in
       let first = head-held s at (ltb-true at (length s) a) (arm-kind (h .opened) (h .stands)) in
       holds-then _ (second-good s (at + 1)) (λ m i y. holds-then _
@@ -231,8 +231,8 @@ module _ (s : List ℕ) (d : ℕ) (p : ℕ → ℕ → Got Term) (good : (n at :
 
 pub term-good : (s : List ℕ) (d n at : ℕ) → Holds (Good s d n at) (term s d n at)
 unfolding term
-term-good s zero n at = holds-test (ltb at (length s)) _ 3 at (λ a. left)
-term-good s (suc d) n at = holds-test (ltb at (length s)) _ 3 at (λ a. holds-head (headOf atTerm (getD s at 0)) at _ (λ r e.
+term-good s zero n at = holds-test (ltb at (length s)) _ 3 (length s) (λ a. left)
+term-good s (suc d) n at = holds-test (ltb at (length s)) _ 3 (length s) (λ a. holds-head (headOf atTerm (getD s at 0)) at _ (λ r e.
     let h = passed atTerm (getD s at 0) r (omega arith) e in
     opened-good s d (term s d) (term-good s d) n at (ltb-true at (length s) a) refl (h .opened) (h .stands) (h .low) (h .high)))
 
@@ -241,7 +241,8 @@ all-words : {s ws : List ℕ} {to : ℕ} → Held s ws 0 to → length s ≤ to 
 all-words {s} {ws} {to} h e = h .words ∙ ap (λ (l : List ℕ). ws ++ l) (drop-of-length-le s e) ∙ append-nil ws
 
 rule-holds : (s : List ℕ) → length s ≤ mostWords
-    → Holds (λ t to. (s ≡ words rules t) × Rule t) (then (term s deepest 0 0) (λ t to. cond (ltb to (length s)) (fault 8 to) (found t to)))
+    → Holds (λ t to. (s ≡ words rules t) × Rule t) (then (term s deepest 0 0) (ended s))
+unfolding ended
 rule-holds s l = holds-then _ (term-good s deepest 0 0) (λ t to x. go t to x (ltb to (length s)) refl)
   where
     go : (t : Term) (to : ℕ) → Good s deepest 0 0 t to → (b : Bool) → ltb to (length s) ≡ b
@@ -260,8 +261,8 @@ unfolding read
 accepted-are-rules ws t e = reading-accepted (go (eqb (length ws) 0) (ltb mostWords (length ws)) refl) e
   where
     go : (b c : Bool) → ltb mostWords (length ws) ≡ c
-        → Holds (λ t to. (ws ≡ words rules t) × Rule t) (cond b (fault 1 0) (cond c (fault 2 0)
-        (then (term ws deepest 0 0) (λ t to. cond (ltb to (length ws)) (fault 8 to) (found t to)))))
+        → Holds (λ t to. (ws ≡ words rules t) × Rule t) (cond b (fault 1 noPlace) (cond c (fault 2 noPlace)
+        (then (term ws deepest 0 0) (ended ws))))
     go true c q = left
     go false true q = left
     go false false q = rule-holds ws (ltb-false mostWords (length ws) q)

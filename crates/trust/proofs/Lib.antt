@@ -3,4 +3,5 @@ pub mod Accepted
 pub mod Complete
 pub mod Ranges
 pub mod Unique
+pub mod Placed
 pub mod Images

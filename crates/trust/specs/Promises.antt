@@ -1,13 +1,13 @@
 -- What a reader of the definitions may rely on.
-use Prim.Native.Nat.{ℕ, _<_, _^_}
+use Prim.Native.Nat.{ℕ, _+_, _<_, _≤_, _^_}
 use mathlib.Core.Path.{_≡_}
-use mathlib.Core.List.{List}
-use lib.ListN.{getD}
+use mathlib.Core.List.{List, _++_}
+use lib.ListN.{length, getD, take}
 use Rattle.language.specs.Term.{Lang, rules, images, Term}
 use Rattle.language.specs.Words.{words}
-use Rattle.language.specs.Limits.{Ranged, Rule}
+use Rattle.language.specs.Limits.{mostWords, Ranged, Rule}
 use Rattle.language.specs.Image.{image}
-use Rattle.language.specs.Read.{read, accepted}
+use Rattle.language.specs.Read.{noPlace, read, accepted, refused}
 
 -- what is accepted is exactly the words of its term, and that term is a rule: closed, within the ranges, the depth and the words
 abbrev pub AcceptedAreRules : Type 0
@@ -16,6 +16,19 @@ AcceptedAreRules = (ws : List ℕ) (t : Term) → read ws ≡ accepted t → (ws
 -- the words of every rule are accepted, with that term
 abbrev pub RulesAreAccepted : Type 0
 RulesAreAccepted = (t : Term) → Rule t → read (words rules t) ≡ accepted t
+
+-- what the place of a refusal tells its reader. of-length: 1 and 2, which test no word. of-end: "3 carries the number of words given". of-word: "the
+-- place of the word tested" is that of a word given, and the words up to it decide: whatever follows them, in at most 4,096 words, the refusal is the
+-- same
+pub data Placed (ws : List ℕ) : ℕ → ℕ → Type 0 where
+  of-length : {e : ℕ} → 1 ≤ e → e ≤ 2 → Placed ws e noPlace
+  of-end : length ws ≤ mostWords → Placed ws 3 (length ws)
+  of-word : {e p : ℕ} → length ws ≤ mostWords → 4 ≤ e → e ≤ 8 → p < length ws
+      → ((more : List ℕ) → length (take (p + 1) ws ++ more) ≤ mostWords → read (take (p + 1) ws ++ more) ≡ refused e p) → Placed ws e p
+
+-- document 02, Wish 1: "Show the author the word."
+abbrev pub PlacesHelp : Type 0
+PlacesHelp = (ws : List ℕ) (e p : ℕ) → read ws ≡ refused e p → Placed ws e p
 
 -- "16-bit words": one more than the highest word
 abbrev pub wordEnd : ℕ

@@ -13,11 +13,8 @@ cast-result c = search ways
 enum-known-a-2 : tie.Need-enum-known-a-2
 enum-known-a-2 c = search needs
 
-cast-result-2 : tie.Need-cast-result-2
-cast-result-2 c = search needs
-
-add-result : tie.Need-add-result
-add-result c = search needs
+refused-requires : tie.Need-refused-requires
+refused-requires c κs = search ways
 
 returns : tie.Need-returns
 returns c = search ways
@@ -27,5 +24,4 @@ returns-2 c = search ways
 
 pub number-spec : {M : Type 1} → statement M
 number-spec =
-    tie.close
-    (tie.spec enum-known-a cast-result enum-known-a-2 cast-result-2 add-result returns returns-2)
+    tie.close (tie.spec enum-known-a cast-result enum-known-a-2 refused-requires returns returns-2)

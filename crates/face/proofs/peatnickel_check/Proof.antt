@@ -13,11 +13,8 @@ enum-told c = search needs
 enum-known-e : tie.Need-enum-known-e
 enum-known-e c = search needs
 
-cast-result : tie.Need-cast-result
-cast-result c = search needs
-
-add-result : tie.Need-add-result
-add-result c = search needs
+refused-requires : tie.Need-refused-requires
+refused-requires c κs = search ways
 
 returns : tie.Need-returns
 returns c = search ways
@@ -27,5 +24,4 @@ returns-2 c = search ways
 
 pub peatnickel-check-spec : {M : Type 1} → statement M
 peatnickel-check-spec =
-    tie.close
-    (tie.spec check-requires enum-told enum-known-e cast-result add-result returns returns-2)
+    tie.close (tie.spec check-requires enum-told enum-known-e refused-requires returns returns-2)

@@ -1,14 +1,17 @@
 -- `listing::show_image` meets its contract. Assumes nothing.
-use Rattle.listing.proofs.Ways.{ways}
 use borrow.Author.Needs.{needs}
+use mathlib.Core.Path.{ap, _∙_}
+use lib.ListN.{length, length-set}
+use lib.Seq.{length-sets}
+use Rattle.listing.proofs.Ways.{ways}
 use Rattle.listing.proofs.show_image.Statement.{statement}
 use Rattle.listing.proofs.show_image.Tie as tie
 
 places-requires : tie.Need-places-requires
 places-requires c κs = search needs
 
-add-line : tie.Need-add-line
-add-line c = search needs
+add-end : tie.Need-add-end
+add-end c = search needs
 
 returns : tie.Need-returns
 returns c = search ways
@@ -16,23 +19,37 @@ returns c = search ways
 sub-if2 : tie.Need-sub-if2
 sub-if2 c = search needs
 
+sub-if2-2 : tie.Need-sub-if2-2
+sub-if2-2 c = search needs
+
 returns-2 : tie.Need-returns-2
 returns-2 c = search ways
 
-mul-size : tie.Need-mul-size
-mul-size c = search needs
+put-start-requires : tie.Need-put-start-requires
+put-start-requires c κs = search needs
 
-add-size : tie.Need-add-size
-add-size c = search needs
+slice-write-out : tie.Need-slice-write-out
+slice-write-out c = search needs
 
-put-line-requires : tie.Need-put-line-requires
-put-line-requires c κs = search needs
+add-put-words : tie.Need-add-put-words
+add-put-words c = search needs
 
 put-words-requires : tie.Need-put-words-requires
-put-words-requires c κs = search needs
+put-words-requires c κs = simp length-set (search needs)
+
+add-t8 : tie.Need-add-t8
+add-t8 c = search needs
+
+mul-t9 : tie.Need-mul-t9
+mul-t9 c = search needs
+
+add-t11 : tie.Need-add-t11
+add-t11 c = search needs
 
 same-length : tie.Need-same-length
-same-length c = search needs
+same-length c =
+    ap length (c .before .before .put-words .ensures) ∙ simp (length-sets, length-set)
+    (ap length (c .before .before .before .before .before .before .put-start .ensures) ∙ simp length-sets)
 
 returns-3 : tie.Need-returns-3
 returns-3 c = search ways
@@ -42,13 +59,17 @@ show-image-spec =
     tie.close
     (tie.spec
     places-requires
-    add-line
+    add-end
     returns
     sub-if2
+    sub-if2-2
     returns-2
-    mul-size
-    add-size
-    put-line-requires
+    put-start-requires
+    slice-write-out
+    add-put-words
     put-words-requires
+    add-t8
+    mul-t9
+    add-t11
     same-length
     returns-3)

@@ -1,0 +1,253 @@
+-- A refusal's place helps its reader: 3 carries the number of words, 4 to 8 the place of a word given, and such a refusal is decided by the words up to
+-- and including that one. By induction on the levels of depth left, over two tables whose first k words agree: reading goes forward only, so
+-- that what it comes to within the first k words of the one it comes to in the other.
+-- Assumes nothing.
+use Prim.Native.Nat.{ℕ, zero, suc, _+_, _%_, _<_, _≤_}
+use mathlib.Core.Path.{_≡_, refl, sym, ap, _∙_}
+use mathlib.Core.Bool.{Bool, true, false, cond}
+use mathlib.Core.List.{List, _++_}
+use native.Mathlib.Omega.{arith}
+use lib.Dec.{ltb, leb, eqb}
+use lib.ListN.{length, getD, take, length-append, List·getD-append}
+use lib.Seq.{length-take-le, getD-take}
+use borrow.Author.Tests.{lt-ltb, le-ltb, ne-eqb, ltb-true, ltb-false}
+use Rattle.language.specs.Term.{Term, Terms, Arms, var, fun, call, bind, con, cases, nil, cons, none, arm}
+use Rattle.language.specs.Kinds.{mostArguments, atTerm, atArm, rowOf, tested, headOf}
+use Rattle.language.specs.Limits.{deepest, mostWords}
+use Rattle.language.specs.Read.{noPlace, Got, found, fault, then, made, word, headed, second, many, armsOf, opened, term, Reading, refused, reading, ended, read}
+use Rattle.language.specs.declared.Parts.{Parts}
+use Rattle.language.specs.declared.Parts.the-variants.{Nothing, Body, FunctionAndArguments, BoundAndBody, CountAndArguments, SubjectAndArms, ArityAndBody}
+use Rattle.language.specs.declared.Row.{Row}
+use Rattle.language.specs.declared.Head.{Head}
+use Rattle.language.specs.declared.Head.the-variants.{Refused, Opens}
+use Rattle.language.proofs.Clash.{never}
+use Rattle.trust.specs.Promises.{Placed, of-length, of-end, of-word, PlacesHelp}
+
+-- what a fault tells that is met in reading the words s: none is left, or the word at its place is refused
+data Told (s : List ℕ) : ℕ → ℕ → Type 0 where
+  ends : Told s 3 (length s)
+  tests : {e p : ℕ} → 4 ≤ e → e ≤ 8 → p < length s → Told s e p
+
+data Tells (s : List ℕ) {A : Type 0} : Got A → Type 0 where
+  finds : {a : A} {to : ℕ} → Tells s (found a to)
+  faults : {e p : ℕ} → Told s e p → Tells s (fault e p)
+
+-- what reading comes to is settled by the first k words
+data Settled (k : ℕ) {A : Type 0} : Got A → Type 0 where
+  by-end : {a : A} {to : ℕ} → to ≤ k → Settled k (found a to)
+  by-fault : {e p : ℕ} → 4 ≤ e → p < k → Settled k (fault e p)
+
+-- of readings g and h of two tables, s the first: where g is settled by the first k words, it used those before `at`, and h is the same
+record Alike (s : List ℕ) (k at : ℕ) {A : Type 0} (g h : Got A) : Type 0 where
+  tells : Tells s g
+  same : Settled k g → (at ≤ k) × (h ≡ g)
+
+-- a head is refused by 4 or 5
+head-told : (q w : ℕ) {e : ℕ} → headOf q w ≡ Refused e → (4 ≤ e) × (e ≤ 8)
+unfolding headOf tested
+head-told q w {e} h = go (eqb (r .stands) q) (ltb (w % 256) (r .low)) (ltb (r .high) (w % 256)) h
+  where
+    r : Row
+    r = rowOf w
+
+    go : (a b c : Bool) → cond a (cond b (Refused 5) (cond c (Refused 5) (Opens r))) (Refused 4) ≡ Refused e → (4 ≤ e) × (e ≤ 8)
+    go true true c k = let z : _≡_ {A = ℕ} 5 e = cc in (omega arith, omega arith)
+    go true false true k = let z : _≡_ {A = ℕ} 5 e = cc in (omega arith, omega arith)
+    go true false false k = never cc
+    go false b c k = let z : _≡_ {A = ℕ} 4 e = cc in (omega arith, omega arith)
+
+module _ (s u : List ℕ) (k : ℕ) (agree : (i : ℕ) → i < k → i < length s → (i < length u) × (getD u i 0 ≡ getD s i 0)) where
+  found-alike : {A : Type 0} {at to : ℕ} (a : A) → at ≤ to → Alike s k at (found a to) (found a to)
+  found-alike {A} {at} {to} a l = record { tells = finds; same = go }
+    where
+      go : Settled k (found a to) → (at ≤ k) × (_≡_ {A = Got A} (found a to) (found a to))
+      go (by-end m) = (omega arith, refl)
+
+  fault-alike : {A : Type 0} {at p : ℕ} (e : ℕ) → 4 ≤ e → e ≤ 8 → p < length s → at ≤ p + 1 → Alike s k at {A = A} (fault e p) (fault e p)
+  fault-alike {A} {at} {p} e l m n b = record { tells = faults (tests l m n); same = go }
+    where
+      go : Settled k {A = A} (fault e p) → (at ≤ k) × (_≡_ {A = Got A} (fault e p) (fault e p))
+      go (by-fault m n) = (omega arith, refl)
+
+  from : {A : Type 0} {at to : ℕ} {g h : Got A} → at ≤ to → Alike s k to g h → Alike s k at g h
+  from l x = record { tells = x .tells; same = λ d. let y = x .same d in (omega (arith, y .0), y .1) }
+
+  then-alike : {A B : Type 0} {at : ℕ} (g : Got A) {h : Got A} {f f' : A → ℕ → Got B} → Alike s k at g h
+      → ((a : A) (to : ℕ) → Alike s k to (f a to) (f' a to)) → Alike s k at (then g f) (then h f')
+  unfolding then
+  then-alike (found a to) x y = record {
+    tells = y a to .tells;
+    same = λ d. let z = y a to .same d in let w = x .same (by-end (z .0)) in (w .0, rw (w .1) (z .1));
+  }
+  then-alike {B} {at} (fault e p) {h} {f' = f'} x y = record { tells = go (x .tells); same = done }
+    where
+      go : {A : Type 0} → Tells s {A = A} (fault e p) → Tells s {A = B} (fault e p)
+      go (faults t) = faults t
+
+      done : Settled k {A = B} (fault e p) → (at ≤ k) × (then h f' ≡ fault e p)
+      done (by-fault l m) = let w = x .same (by-fault l m) in (w .0, rw (w .1))
+
+  made-alike : {A B : Type 0} {at : ℕ} (g : Got A) {h : Got A} (f : A → B) → Alike s k at g h → Alike s k at (made f g) (made f h)
+  unfolding made
+  made-alike {B} {at} (found a to) {h} f x = record { tells = finds; same = go }
+    where
+      go : Settled k (found (f a) to) → (at ≤ k) × (made f h ≡ found (f a) to)
+      go (by-end l) = let w = x .same (by-end l) in (w .0, rw (w .1))
+  made-alike {B} {at} (fault e p) {h} f x = record { tells = go (x .tells); same = done }
+    where
+      go : {A : Type 0} → Tells s {A = A} (fault e p) → Tells s {A = B} (fault e p)
+      go (faults t) = faults t
+
+      done : Settled k {A = B} (fault e p) → (at ≤ k) × (made f h ≡ fault e p)
+      done (by-fault l m) = let w = x .same (by-fault l m) in (w .0, rw (w .1))
+
+  test-alike : {A : Type 0} {at : ℕ} (b : Bool) {g h g' h' : Got A} → Alike s k at g h → Alike s k at g' h' → Alike s k at (cond b g g') (cond b h h')
+  test-alike true x y = x
+  test-alike false x y = y
+
+  -- the word at a place, which the two tables share where it is among the first k
+  word-alike : {A : Type 0} (at : ℕ) {f f' : ℕ → Got A} → ((w : ℕ) → at < length s → Alike s k (at + 1) (f w) (f' w))
+      → Alike s k (at + 1) (word s at f) (word u at f')
+  word-alike {A} at {f} {f'} h = go (ltb at (length s)) refl
+    where
+      there : at < length s → Settled k (f (getD s at 0)) → (at + 1 ≤ k) × (word u at f' ≡ f (getD s at 0))
+      there l d =
+          let y = h (getD s at 0) l .same d in
+          let a = agree at (omega (arith, y .0)) l in
+          (y .0, simp (lt-ltb at (length u) (a .0), a .1) (y .1))
+
+      gone : Settled k {A = A} (fault 3 (length s)) → (at + 1 ≤ k) × (word u at f' ≡ fault 3 (length s))
+      gone (by-fault l m) = absurd (omega arith)
+
+      go : (b : Bool) → ltb at (length s) ≡ b → Alike s k (at + 1) (cond b (f (getD s at 0)) (fault 3 (length s))) (word u at f')
+      go true e = let l = ltb-true at (length s) e in record { tells = h (getD s at 0) l .tells; same = there l }
+      go false e = record { tells = faults ends; same = gone }
+
+  head-alike : {A : Type 0} (q w at : ℕ) {f f' : Row → Got A} → at < length s → ((r : Row) → Alike s k (at + 1) (f r) (f' r))
+      → Alike s k (at + 1) (headed (headOf q w) at f) (headed (headOf q w) at f')
+  head-alike q w at {f} {f'} l x = go (headOf q w) refl
+    where
+      go : (o : Head) → headOf q w ≡ o → Alike s k (at + 1) (headed o at f) (headed o at f')
+      go (Refused e) i = let t = head-told q w i in fault-alike e (t .0) (t .1) l (omega arith)
+      go (Opens r) i = x r
+
+  second-alike : (at : ℕ) → Alike s k (at + 1) (second s at) (second u at)
+  unfolding second
+  second-alike at = word-alike at (λ w l. test-alike (leb w mostArguments) (found-alike {to = at + 1} w (omega arith))
+      (fault-alike 5 (omega arith) (omega arith) l (omega arith)))
+
+  -- the readers of lists, arms and forms, where p and p' read their terms in the two tables
+  module _ (p p' : ℕ → ℕ → Got Term) (alike : (n at : ℕ) → Alike s k (at + 1) (p n at) (p' n at)) where
+    next : (n at : ℕ) → Alike s k at (p n at) (p' n at)
+    next n at = from (omega arith) (alike n at)
+
+    many-alike : (n c at : ℕ) → Alike s k at (many (p n) c at) (many (p' n) c at)
+    unfolding many
+    many-alike n zero at = found-alike nil (omega arith)
+    many-alike n (suc c) at = then-alike (p n at) (next n at) (λ t to. made-alike (many (p n) c to) (cons t) (many-alike n c to))
+
+    arms-alike : (n c at : ℕ) → Alike s k at (armsOf s p n c at) (armsOf u p' n c at)
+    unfolding armsOf
+    arms-alike n zero at = found-alike none (omega arith)
+    arms-alike n (suc c) at = from (omega arith) (word-alike at (λ w l. head-alike atArm w at l (λ r.
+        then-alike (second s (at + 1)) (from (omega arith) (second-alike (at + 1))) (λ m to. then-alike (p (n + m) to) (next (n + m) to)
+        (λ b past. made-alike (armsOf s p n c past) (arm (w % 256) m b) (arms-alike n c past))))))
+
+    opened-alike : (n at a o : ℕ) (f : Parts) → at < length s → Alike s k (at + 1) (opened s p n at a o f) (opened u p' n at a o f)
+    unfolding opened
+    opened-alike n at a o Nothing l =
+        test-alike (ltb a n) (found-alike (var a) (omega arith)) (fault-alike 7 (omega arith) (omega arith) l (omega arith))
+    opened-alike n at a o Body l = made-alike (p (n + a + o) (at + 1)) (fun o a) (next _ _)
+    opened-alike n at a o FunctionAndArguments l =
+        then-alike (p n (at + 1)) (next _ _) (λ f to. made-alike (many (p n) a to) (call f) (many-alike n a to))
+    opened-alike n at a o BoundAndBody l = then-alike (p n (at + 1)) (next _ _) (λ m to. made-alike (p (n + o) to) (bind m) (next _ _))
+    opened-alike n at a o CountAndArguments l =
+        then-alike (second s (at + 1)) (from (omega arith) (second-alike (at + 1))) (λ m to. made-alike (many (p n) m to) (con a) (many-alike n m to))
+    opened-alike n at a o SubjectAndArms l =
+        then-alike (p n (at + 1)) (next _ _) (λ m to. made-alike (armsOf s p n a to) (cases m) (arms-alike n a to))
+    opened-alike n at a o ArityAndBody l = fault-alike 4 (omega arith) (omega arith) l (omega arith)
+
+  term-alike : (d n at : ℕ) → Alike s k (at + 1) (term s d n at) (term u d n at)
+  unfolding term
+  term-alike zero n at = word-alike at (λ w l. fault-alike 6 (omega arith) (omega arith) l (omega arith))
+  term-alike (suc d) n at = word-alike at (λ w l. head-alike atTerm w at l (λ r.
+      opened-alike (term s d) (term u d) (term-alike d) n at (w % 256) (r .binds) (r .parts) l))
+
+-- what reading the whole of s refuses
+ended-told : (s : List ℕ) (g : Got Term) {e p : ℕ} → Tells s g → then g (ended s) ≡ fault e p → Told s e p
+unfolding then ended
+ended-told s (fault d i) {e} {p} x h = go x (cc) (cc)
+  where
+    go : Tells s {A = Term} (fault d i) → d ≡ e → i ≡ p → Told s e p
+    go (faults t) a b = rw (a, b) at t
+ended-told s (found t to) {e} {p} x h = go (ltb to (length s)) refl h
+  where
+    go : (b : Bool) → ltb to (length s) ≡ b → cond b (fault 8 to) (found t to) ≡ fault e p → Told s e p
+    go true b k = let x : _≡_ {A = ℕ} 8 e = cc in let y : to ≡ p = cc in tests {e = e} {p = p} (omega arith) (omega arith) (omega (arith, ltb-true to (length s) b))
+    go false b k = never cc
+
+-- and what the words of another table come to that agree with it up to the place
+ended-same : (s u : List ℕ) (k : ℕ) → ((i : ℕ) → i < k → i < length s → i < length u) → (g h : Got Term) → Alike s k 1 g h → {e p : ℕ}
+    → then g (ended s) ≡ fault e p → 4 ≤ e → p < k → then h (ended u) ≡ fault e p
+unfolding then ended
+ended-same s u k longer (fault d i) h x {e} {p} q l m =
+    let a : d ≡ e = cc in let b : i ≡ p = cc in
+    rw (x .same (by-fault (omega arith) (omega arith)) .1) q
+ended-same s u k longer (found t to) h x {e} {p} q l m = go (ltb to (length s)) refl q
+  where
+    go : (b : Bool) → ltb to (length s) ≡ b → cond b (fault 8 to) (found t to) ≡ fault e p → then h (ended u) ≡ fault e p
+    go true b q =
+        let y : to ≡ p = cc in
+        rw (x .same (by-end (omega arith)) .1) (simp (lt-ltb to (length u) (longer to (omega arith) (ltb-true to (length s) b))) q)
+    go false b q = never cc
+
+abbrev whole : List ℕ → Got Term
+whole s = then (term s deepest 0 0) (ended s)
+
+whole-told : (s : List ℕ) {e p : ℕ} → whole s ≡ fault e p → Told s e p
+whole-told s h = ended-told s (term s deepest 0 0) (term-alike s s 0 (λ i a. absurd (omega arith)) deepest 0 0 .tells) h
+
+whole-same : (s more : List ℕ) {e p : ℕ} → whole s ≡ fault e p → 4 ≤ e → p < length s → whole (take (p + 1) s ++ more) ≡ fault e p
+whole-same s more {e} {p} h l m =
+    ended-same s u (p + 1) (λ i a b. agree i a b .0) (term s deepest 0 0) (term u deepest 0 0) (term-alike s u (p + 1) agree deepest 0 0) h l (omega arith)
+  where
+    u : List ℕ
+    u = take (p + 1) s ++ more
+
+    first : length (take (p + 1) s) ≡ p + 1
+    first = length-take-le (p + 1) s (omega arith)
+
+    agree : (i : ℕ) → i < p + 1 → i < length s → (i < length u) × (getD u i 0 ≡ getD s i 0)
+    agree i a b = (
+      omega (arith, length-append (take (p + 1) s) more, first),
+      List·getD-append (take (p + 1) s) more 0 i (omega (arith, first)) ∙ getD-take (p + 1) s i 0 a,
+    )
+
+-- the tests of the lengths before it
+read-whole : (s : List ℕ) → (length s ≡ 0 → ⊥) → length s ≤ mostWords → read s ≡ reading (whole s)
+unfolding read
+read-whole s n l = simp (ne-eqb (length s) 0 n, le-ltb mostWords (length s) l)
+
+reading-refused : (g : Got Term) {e p : ℕ} → reading g ≡ refused e p → g ≡ fault e p
+reading-refused (found t to) h = never cc
+reading-refused (fault e p) h = cc
+
+placed : {ws : List ℕ} {e p : ℕ} → length ws ≤ mostWords → whole ws ≡ fault e p → Told ws e p → Placed ws e p
+placed l h ends = of-end l
+placed {ws} {e} {p} l h (tests m n i) = of-word l m n i same
+  where
+    same : (more : List ℕ) → length (take (p + 1) ws ++ more) ≤ mostWords → read (take (p + 1) ws ++ more) ≡ refused e p
+    same more few =
+        let some : length (take (p + 1) ws ++ more) ≡ 0 → ⊥
+        = λ z. omega (arith, length-append (take (p + 1) ws) more, length-take-le (p + 1) ws (omega arith)) in
+        read-whole (take (p + 1) ws ++ more) some few ∙ ap reading (whole-same ws more h m i)
+
+pub places-help : PlacesHelp
+unfolding read
+places-help ws e p h = go (eqb (length ws) 0) (ltb mostWords (length ws)) (ltb-false mostWords (length ws)) h
+  where
+    go : (b c : Bool) → (c ≡ false → length ws ≤ mostWords) → reading (cond b (fault 1 noPlace) (cond c (fault 2 noPlace) (whole ws))) ≡ refused e p
+        → Placed ws e p
+    go true c few k = let x : _≡_ {A = ℕ} 1 e = cc in let y : noPlace ≡ p = cc in rw (← y) (of-length {e = e} (omega arith) (omega arith))
+    go false true few k = let x : _≡_ {A = ℕ} 2 e = cc in let y : noPlace ≡ p = cc in rw (← y) (of-length {e = e} (omega arith) (omega arith))
+    go false false few k = placed (few refl) (reading-refused (whole ws) k) (whole-told ws (reading-refused (whole ws) k))
