@@ -1,4 +1,4 @@
-/* The paper's worked rules. */
+/* The paper's worked rules, and rules that tell a right place from a near. */
 #ifndef PEER_CASES_H
 #define PEER_CASES_H
 
@@ -22,7 +22,14 @@ struct refused_case {
     struct refusal refusal;
 };
 
-enum { ACCEPTED_CASES = 7, REFUSED_CASES = 6 };
+/* A rule refused at one of its parts, where another place lies near. */
+struct place_case {
+    const char *name;
+    struct word_list rule;
+    struct refusal refusal;
+};
+
+enum { ACCEPTED_CASES = 7, REFUSED_CASES = 6, PLACE_CASES = 24 };
 
 /* Case O: words 0201 before 0600 0000. */
 enum { O_REFUSED_FUNCTIONS = 64, O_ACCEPTED_FUNCTIONS = 63 };
@@ -32,6 +39,7 @@ enum { N_SHORT_OUTPUT = 7, N_LONG_ENOUGH_OUTPUT = 8 };
 
 extern const struct accepted_case accepted_cases[ACCEPTED_CASES]; /* A to G */
 extern const struct refused_case refused_cases[REFUSED_CASES];    /* H to M */
+extern const struct place_case place_cases[PLACE_CASES];
 
 extern const struct word_list case_b_image;
 extern const struct byte_list case_b_file;

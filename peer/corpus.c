@@ -106,7 +106,7 @@ static void translate_record(struct word_list rule, uint16_t *image, FILE *out)
     struct word_list words = { image, reply.count };
 
     if (reply.refusal.number != REFUSED_NOTHING) {
-        fprintf(out, "no %d\n", (int)reply.refusal.number);
+        print_refusal(out, reply.refusal);
         return;
     }
     fprintf(out, "ok %zu %08lX\n", words.count,

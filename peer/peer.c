@@ -46,7 +46,7 @@ static bool is_refused(struct refusal refusal, FILE *out)
 {
     if (refusal.number == REFUSED_NOTHING)
         return false;
-    fprintf(out, "no %d\n", (int)refusal.number);
+    print_refusal(out, refusal);
     return true;
 }
 
@@ -92,10 +92,7 @@ static int run_rule_and_image(FILE *in, FILE *out)
         return EXIT_SUCCESS;
     struct arena arena = arena_for_runs();
     struct both_runs runs = run_both(&arena, input_rule(&input));
-    if (runs.refusal.number != REFUSED_NOTHING) {
-        fprintf(out, "no %d at %zu\n", (int)runs.refusal.number,
-                runs.refusal.place);
-    } else {
+    if (!is_refused(runs.refusal, out)) {
         print_result(out, "rule", &arena, &runs.of_rule);
         if (runs.of_rule.outcome != GAVE_UP)
             print_result(out, "image", &arena, &runs.of_image);

@@ -25,6 +25,12 @@ struct head {
 static const struct term *read_term(struct reader *reader, size_t depth,
                                     struct scope scope);
 
+void print_refusal(FILE *out, struct refusal refusal)
+{
+    fprintf(out, "no %d %zu\n", (int)refusal.number, refusal.place);
+}
+
+/* The word tested is the next; where none is left, its place is the count. */
 static bool refuse(struct reader *reader, enum refusal_number number)
 {
     reader->refusal = (struct refusal){ number, reader->next };

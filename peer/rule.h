@@ -3,6 +3,7 @@
 #define PEER_RULE_H
 
 #include <stddef.h>
+#include <stdio.h>
 
 #include "arena.h"
 #include "term.h"
@@ -32,13 +33,16 @@ enum {
 };
 
 /*
- * For 3 to 8 the place is that of the word tested, counted from 0; for 3 that
- * is the number of words given. Otherwise the place is 0.
+ * "Refusals 3 to 8 shall carry the place of the word tested, counted from 0; 3
+ * carries the number of words given. All other refusals carry place 0."
  */
 struct refusal {
     enum refusal_number number;
     size_t place;
 };
+
+/* "The bench program prints the place after the number." */
+void print_refusal(FILE *out, struct refusal refusal);
 
 struct reading {
     struct refusal refusal;

@@ -7,6 +7,7 @@
 #include "cases.h"
 #include "demand3.h"
 #include "file.h"
+#include "gen_record.h"
 #include "image.h"
 
 enum {
@@ -37,6 +38,12 @@ static void expect(struct tally *tally, bool holds, char name,
 static bool is_refusal(struct refusal found, struct refusal expected)
 {
     return found.number == expected.number && found.place == expected.place;
+}
+
+/* "All other refusals carry place 0." */
+static bool is_placeless(struct refusal found, enum refusal_number number)
+{
+    return is_refusal(found, (struct refusal){ number, 0 });
 }
 
 static void lend_words(uint16_t *words)
@@ -70,7 +77,7 @@ static void try_writing(struct tally *tally, const struct accepted_case *it)
     lend_words(output);
     reply = write_image(it->rule, output, it->image_count - 1);
     expect(tally,
-           reply.refusal.number == REFUSED_OUTPUT_SHORT &&
+           is_placeless(reply.refusal, REFUSED_OUTPUT_SHORT) &&
                untouched_from(output, 0),
            it->name, "an output one word short is refused and unchanged");
 }
@@ -166,9 +173,65 @@ static void try_refused(struct tally *tally, const struct refused_case *it)
     struct reply reply = write_image(it->rule, output, LENT_WORDS);
     expect(tally, is_refusal(check_rule(it->rule), it->refusal), it->name,
            "refusal and place by the checking call");
+    expect(tally, is_refusal(measure_image(it->rule).refusal, it->refusal),
+           it->name, "refusal and place by the measuring call");
     expect(tally, is_refusal(reply.refusal, it->refusal), it->name,
            "refusal and place by the writing call");
     expect(tally, untouched_from(output, 0), it->name, "output unchanged");
+}
+
+static bool every_call_refuses(struct word_list rule, struct refusal refusal)
+{
+    uint16_t output[LENT_WORDS];
+
+    lend_words(output);
+    return is_refusal(check_rule(rule), refusal) &&
+           is_refusal(measure_image(rule).refusal, refusal) &&
+           is_refusal(write_image(rule, output, LENT_WORDS).refusal,
+                      refusal) &&
+           untouched_from(output, 0);
+}
+
+static void try_places(struct tally *tally)
+{
+    for (size_t i = 0; i < PLACE_CASES; i++) {
+        const struct place_case *it = &place_cases[i];
+
+        expect(tally, every_call_refuses(it->rule, it->refusal), 'p',
+               it->name);
+    }
+}
+
+/* A word more than a rule may have is not read; without it one is missing. */
+static void try_highest_place(struct tally *tally)
+{
+    const struct refusal too_many = { REFUSED_TOO_MANY_WORDS, 0 };
+    const struct refusal missing = { REFUSED_WORD_MISSING, RULE_WORDS_MOST };
+    uint16_t words[RULE_WORDS_MOST + 1];
+    struct word_sink sink = sink_into(words, RULE_WORDS_MOST + 1);
+
+    put_filler(&sink, RULE_WORDS_MOST + 1);
+    struct word_list rule = sink_words(&sink);
+    expect(tally, every_call_refuses(rule, too_many), 'p',
+           "one word more than a rule may have");
+    rule.count--;
+    expect(tally, every_call_refuses(rule, missing), 'p',
+           "as many words as a rule may have, and one is missing");
+}
+
+static void try_printing(struct tally *tally)
+{
+    const struct refusal refusal = { REFUSED_RANGE, 17 };
+    FILE *file = tmpfile();
+    char line[LENT_BYTES] = "";
+
+    if (file != NULL) {
+        print_refusal(file, refusal);
+        rewind(file);
+        line[fread(line, sizeof line[0], sizeof line - 1, file)] = '\0';
+        fclose(file);
+    }
+    expect(tally, strcmp(line, "no 5 17\n") == 0, 'p', "a refusal's line");
 }
 
 static void try_case_b_image(struct tally *tally)
@@ -188,7 +251,7 @@ static void try_case_n(struct tally *tally)
 
     lend_words(output);
     struct reply reply = write_image(rule, output, N_SHORT_OUTPUT);
-    expect(tally, reply.refusal.number == REFUSED_OUTPUT_SHORT, 'N',
+    expect(tally, is_placeless(reply.refusal, REFUSED_OUTPUT_SHORT), 'N',
            "refused with 7 words");
     expect(tally, untouched_from(output, 0), 'N', "output unchanged");
     reply = write_image(rule, output, N_LONG_ENOUGH_OUTPUT);
@@ -206,7 +269,7 @@ static void try_case_o(struct tally *tally)
     struct word_sink accepted = sink_into(words, LENT_WORDS);
 
     put_case_o(&refused, O_REFUSED_FUNCTIONS);
-    expect(tally, is_refusal(check_rule(sink_words(&refused)), too_deep), 'O',
+    expect(tally, every_call_refuses(sink_words(&refused), too_deep), 'O',
            "refused with 64 functions");
     put_case_o(&accepted, O_ACCEPTED_FUNCTIONS);
     expect(tally,
@@ -279,7 +342,8 @@ static void try_refused_files(struct tally *tally)
         lend_words(words);
         struct reply reply = unpack_file(it->form, file, words, it->capacity);
         expect(tally,
-               reply.refusal.number == it->number && untouched_from(words, 0),
+               is_placeless(reply.refusal, it->number) &&
+                   untouched_from(words, 0),
                'f', it->claim);
     }
 }
@@ -297,8 +361,8 @@ static void try_longest(struct tally *tally, enum file_form form, size_t most)
     for (size_t i = 0; i < most; i++)
         words[i] = (uint16_t)(i * i);
     expect(tally,
-           pack_file(form, longer, bytes, room).refusal.number ==
-               REFUSED_TOO_MANY_WORDS,
+           is_placeless(pack_file(form, longer, bytes, room).refusal,
+                        REFUSED_TOO_MANY_WORDS),
            'f', "packing one word too many");
     struct reply packed = pack_file(form, longest, bytes, room);
     struct byte_list file = { bytes, packed.count };
@@ -308,8 +372,8 @@ static void try_longest(struct tally *tally, enum file_form form, size_t most)
     bytes[COUNT_LOW_BYTE]++; /* the count's low byte is 0 for both limits */
     file.count += BYTES_OF_A_WORD;
     expect(tally,
-           unpack_file(form, file, back, most + 1).refusal.number ==
-               REFUSED_TOO_MANY_WORDS,
+           is_placeless(unpack_file(form, file, back, most + 1).refusal,
+                        REFUSED_TOO_MANY_WORDS),
            'f', "unpacking one word too many");
     free(bytes);
     free(words);
@@ -324,12 +388,14 @@ static void try_packing_refusals(struct tally *tally)
 
     memset(bytes, UNTOUCHED_BYTE, sizeof bytes);
     expect(tally,
-           pack_file(FORM_RULE, nothing, bytes, 0).refusal.number ==
-               REFUSED_NO_WORDS,
+           is_placeless(pack_file(FORM_RULE, nothing, bytes, 0).refusal,
+                        REFUSED_NO_WORDS),
            'f', "packing no words");
     expect(tally,
-           pack_file(FORM_RULE, rule, bytes, case_b_file.count - 1)
-                   .refusal.number == REFUSED_OUTPUT_SHORT,
+           is_placeless(
+               pack_file(FORM_RULE, rule, bytes, case_b_file.count - 1)
+                   .refusal,
+               REFUSED_OUTPUT_SHORT),
            'f', "packing into too few bytes");
     expect(tally, bytes[0] == UNTOUCHED_BYTE, 'f',
            "refused packing leaves the bytes unchanged");
@@ -345,6 +411,9 @@ int run_selftest(FILE *out)
     }
     for (size_t i = 0; i < REFUSED_CASES; i++)
         try_refused(&tally, &refused_cases[i]);
+    try_places(&tally);
+    try_highest_place(&tally);
+    try_printing(&tally);
     try_run_cases(&tally);
     try_case_b_image(&tally);
     try_case_n(&tally);

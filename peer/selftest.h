@@ -1,4 +1,4 @@
-/* The paper's worked rules and the file forms, tried one by one. */
+/* The paper's worked rules, places and the file forms, tried one by one. */
 #ifndef PEER_SELFTEST_H
 #define PEER_SELFTEST_H
 
