@@ -5,6 +5,7 @@
 #include "cases.h"
 #include "gen_faults.h"
 #include "gen_limits.h"
+#include "gen_places.h"
 #include "gen_random.h"
 #include "gen_record.h"
 #include "gen_runs.h"
@@ -33,6 +34,7 @@ int generate_corpus(FILE *out)
 {
     write_worked_rules(out);
     write_faults(out);
+    write_places(out);
     write_limits(out);
     write_runs(out);
     write_random_rules(out);
