@@ -53,7 +53,9 @@ static uint32_t our_write(struct word_list rule)
 /* The second translator's reply, as a number of the face. */
 static uint32_t number(struct refusal refusal, size_t count)
 {
-    return refusal.number == REFUSED_NOTHING ? (uint32_t)count : PEATNICKEL_REFUSALS + refusal.number;
+    if (refusal.number == REFUSED_NOTHING)
+        return (uint32_t)count;
+    return PEATNICKEL_REFUSALS + refusal.number + PEATNICKEL_REFUSALS * (uint32_t)refusal.place;
 }
 
 static uint32_t peer_check(struct word_list rule)

@@ -1,7 +1,8 @@
 /*
  * Calls every function of peatnickel.h as a program in C does: on the paper's worked rules A to O, on every refusal from 0 to
- * 12, on outputs one element short, and at the limits. Each call is made on a painted output, and everything that the reply
- * does not name must keep its paint. The cases and the images beside the paper's own come from the second translator, peer/.
+ * 12 and its places, on outputs one element short, and at the limits. Each call is made on a painted output, and everything
+ * that the reply does not name must keep its paint. The cases and the images beside the paper's own come from the second
+ * translator, peer/.
  */
 #include <stdbool.h>
 #include <stdint.h>
@@ -20,7 +21,8 @@ enum {
     HEADER = 7,
     ROOM = IMAGE_MOST + 8,
     FILE_ROOM = HEADER + 2 * ROOM,
-    LAST_REFUSAL = 12
+    LAST_REFUSAL = 12,
+    WRONG_WORD = 0xFFFF /* neither a head nor a second word */
 };
 
 static unsigned checks;
@@ -47,9 +49,21 @@ static void expect_reply(uint32_t reply, uint32_t expected, const char *what, co
         given[peatnickel_refusal_of(reply)] = true;
 }
 
-static uint32_t refusal(uint32_t number)
+static uint32_t refusal(uint32_t number, size_t place)
 {
-    return PEATNICKEL_REFUSALS + number;
+    return PEATNICKEL_REFUSALS + number + PEATNICKEL_REFUSALS * (uint32_t)place;
+}
+
+/* All refusals but 3 to 8 carry place 0. */
+static uint32_t placeless(uint32_t number)
+{
+    return refusal(number, 0);
+}
+
+/* A refusal of a case of peer/, as a reply. */
+static uint32_t reply_of(struct refusal expected)
+{
+    return refusal(expected.number, expected.place);
 }
 
 /* Paint that differs from place to place. */
@@ -112,19 +126,19 @@ static void try_accepted(const char *name, struct word_list rule, struct word_li
     expect_reply(peatnickel_write(words_out, image.count, rule.words, rule.count), count, "write, just room", name);
     expect(front_is(image) && painted_from(image.count, 0), "words written, just room", name);
     paint();
-    expect_reply(peatnickel_write(words_out, image.count - 1, rule.words, rule.count), refusal(PEATNICKEL_NO_ROOM),
+    expect_reply(peatnickel_write(words_out, image.count - 1, rule.words, rule.count), placeless(PEATNICKEL_NO_ROOM),
                  "write, one word short", name);
     expect(painted_from(0, 0), "output one word short is untouched", name);
 }
 
-/* A rule that is refused: every call on it gives the number, and nothing is touched. */
-static void try_refused(const char *name, struct word_list rule, uint32_t number)
+/* A rule that is refused: every call on it gives the number and the place, and nothing is touched. */
+static void try_refused(const char *name, struct word_list rule, uint32_t expected)
 {
     paint();
-    expect_reply(peatnickel_check(rule.words, rule.count), refusal(number), "check", name);
-    expect_reply(peatnickel_measure(rule.words, rule.count), refusal(number), "measure", name);
-    expect_reply(peatnickel_write(words_out, ROOM, rule.words, rule.count), refusal(number), "write", name);
-    expect_reply(peatnickel_write(NULL, 0, rule.words, rule.count), refusal(number), "write to no output", name);
+    expect_reply(peatnickel_check(rule.words, rule.count), expected, "check", name);
+    expect_reply(peatnickel_measure(rule.words, rule.count), expected, "measure", name);
+    expect_reply(peatnickel_write(words_out, ROOM, rule.words, rule.count), expected, "write", name);
+    expect_reply(peatnickel_write(NULL, 0, rule.words, rule.count), expected, "write to no output", name);
     expect(painted_from(0, 0), "output of a refusal is untouched", name);
 }
 
@@ -135,7 +149,7 @@ static void try_file(const char *name, uint32_t form, struct word_list words, co
     size_t size = HEADER + 2 * words.count;
 
     paint();
-    expect_reply(peatnickel_pack(bytes_out, size - 1, form, words.words, words.count), refusal(PEATNICKEL_NO_ROOM),
+    expect_reply(peatnickel_pack(bytes_out, size - 1, form, words.words, words.count), placeless(PEATNICKEL_NO_ROOM),
                  "pack, one byte short", name);
     expect(painted_from(0, 0), "output one byte short is untouched", name);
     expect_reply(peatnickel_pack(bytes_out, FILE_ROOM, form, words.words, words.count), (uint32_t)size, "pack", name);
@@ -143,7 +157,7 @@ static void try_file(const char *name, uint32_t form, struct word_list words, co
     expect(painted_from(0, size), "bytes past the file", name);
     memcpy(file, bytes_out, size);
     paint();
-    expect_reply(peatnickel_unpack(words_out, words.count - 1, form, file, size), refusal(PEATNICKEL_NO_ROOM),
+    expect_reply(peatnickel_unpack(words_out, words.count - 1, form, file, size), placeless(PEATNICKEL_NO_ROOM),
                  "unpack, one word short", name);
     expect(painted_from(0, 0), "output one word short is untouched", name);
     expect_reply(peatnickel_unpack(words_out, words.count, form, file, size), (uint32_t)words.count, "unpack", name);
@@ -153,14 +167,14 @@ static void try_file(const char *name, uint32_t form, struct word_list words, co
 static void try_bad_file(const char *name, uint32_t form, const uint8_t *bytes, size_t count, uint32_t number)
 {
     paint();
-    expect_reply(peatnickel_unpack(words_out, ROOM, form, bytes, count), refusal(number), "unpack", name);
+    expect_reply(peatnickel_unpack(words_out, ROOM, form, bytes, count), placeless(number), "unpack", name);
     expect(painted_from(0, 0), "output of a refusal is untouched", name);
 }
 
 static void try_bad_pack(const char *name, uint32_t form, struct word_list words, uint32_t number)
 {
     paint();
-    expect_reply(peatnickel_pack(bytes_out, FILE_ROOM, form, words.words, words.count), refusal(number), "pack", name);
+    expect_reply(peatnickel_pack(bytes_out, FILE_ROOM, form, words.words, words.count), placeless(number), "pack", name);
     expect(painted_from(0, 0), "output of a refusal is untouched", name);
 }
 
@@ -182,10 +196,10 @@ static void worked_cases(void)
     try_file("case B, the paper's file", PEATNICKEL_RULES, accepted_cases[1].rule, case_b_file.bytes);
     for (size_t i = 0; i < REFUSED_CASES; i++) {
         name[5] = refused_cases[i].name;
-        try_refused(name, refused_cases[i].rule, refused_cases[i].refusal.number);
+        try_refused(name, refused_cases[i].rule, reply_of(refused_cases[i].refusal));
     }
     paint();
-    expect_reply(peatnickel_write(words_out, N_SHORT_OUTPUT, accepted_cases[0].rule.words, 2), refusal(PEATNICKEL_NO_ROOM),
+    expect_reply(peatnickel_write(words_out, N_SHORT_OUTPUT, accepted_cases[0].rule.words, 2), placeless(PEATNICKEL_NO_ROOM),
                  "7 words", "case N");
     expect(painted_from(0, 0), "output untouched", "case N");
     expect_reply(peatnickel_write(words_out, N_LONG_ENOUGH_OUTPUT, accepted_cases[0].rule.words, 2), 8, "8 words", "case N");
@@ -198,13 +212,13 @@ static void case_o(void)
     struct word_sink sink = sink_into(words, O_REFUSED_FUNCTIONS + 2);
 
     put_case_o(&sink, O_REFUSED_FUNCTIONS);
-    try_refused("case O, 64 functions", sink_words(&sink), PEATNICKEL_TOO_DEEP);
+    try_refused("case O, 64 functions", sink_words(&sink), refusal(PEATNICKEL_TOO_DEEP, O_REFUSED_FUNCTIONS));
     sink = sink_into(words, O_REFUSED_FUNCTIONS + 2);
     put_case_o(&sink, O_ACCEPTED_FUNCTIONS);
     try_accepted("case O, 63 functions", sink_words(&sink), peer_image(sink_words(&sink)));
 }
 
-/* A rule of 4,096 words is read; one of 4,097 is not. */
+/* A rule of 4,096 words is read, and its last places are told; one of 4,097 is not. */
 static void longest_rules(void)
 {
     static uint16_t words[RULE_MOST + 1];
@@ -218,7 +232,66 @@ static void longest_rules(void)
     try_accepted("4,096 words of a call", sink_words(&sink), peer_image(sink_words(&sink)));
     sink = sink_into(words, RULE_MOST + 1);
     put_filler(&sink, RULE_MOST + 1);
-    try_refused("4,097 words", sink_words(&sink), PEATNICKEL_TOO_MANY_WORDS);
+    try_refused("4,097 words", sink_words(&sink), placeless(PEATNICKEL_TOO_MANY_WORDS));
+    sink.count = RULE_MOST;
+    try_refused("4,096 words and one missing", sink_words(&sink), refusal(PEATNICKEL_NONE_LEFT, RULE_MOST));
+    sink = sink_into(words, RULE_MOST + 1);
+    put_filler(&sink, RULE_MOST - 1);
+    put_words(&sink, (struct word_list)WORD_LIST(WRONG_WORD));
+    try_refused("4,095 words and one left over", sink_words(&sink), refusal(PEATNICKEL_LEFT_OVER, RULE_MOST - 1));
+}
+
+/* A refusal's parts are read from the reply; a count is none. */
+static void replies(void)
+{
+    const size_t places[] = { 0, 1, 255, 256, RULE_MOST - 1, RULE_MOST };
+
+    for (uint32_t number = 0; number <= LAST_REFUSAL; number++)
+        for (size_t i = 0; i < sizeof places / sizeof places[0]; i++) {
+            uint32_t reply = refusal(number, places[i]);
+
+            expect(peatnickel_is_refusal(reply), "is a refusal", "replies");
+            expect(peatnickel_refusal_of(reply) == number, "number", "replies");
+            expect(peatnickel_place_of(reply) == places[i], "place", "replies");
+        }
+    expect(refusal(PEATNICKEL_OUT_OF_RANGE, 0) == 65541, "5 at 0", "replies");
+    expect(refusal(PEATNICKEL_OUT_OF_RANGE, 17) == 1179653, "5 at 17", "replies");
+    expect(!peatnickel_is_refusal(0) && !peatnickel_is_refusal(PEATNICKEL_REFUSALS - 1), "counts", "replies");
+}
+
+/* Rules that tell the right place from one near it. */
+static void places(void)
+{
+    for (size_t i = 0; i < PLACE_CASES; i++)
+        try_refused(place_cases[i].name, place_cases[i].rule, reply_of(place_cases[i].refusal));
+}
+
+/*
+ * Cases A to G with one word wrong, cut, and with a word more. A word that is wrong wherever it stands is the word tested;
+ * whether as a head or as a second word, and so the number, the second translator says.
+ */
+static void spoiled_cases(void)
+{
+    static uint16_t words[RULE_MOST];
+    char name[] = "case ?, spoiled";
+
+    for (size_t i = 0; i < ACCEPTED_CASES; i++) {
+        struct word_list rule = accepted_cases[i].rule;
+        struct word_list spoiled = { words, rule.count };
+
+        name[5] = accepted_cases[i].name;
+        for (size_t place = 0; place < rule.count; place++) {
+            memcpy(words, rule.words, rule.count * sizeof words[0]);
+            words[place] = WRONG_WORD;
+            try_refused(name, spoiled, refusal(check_rule(spoiled).number, place));
+        }
+        for (size_t count = 1; count < rule.count; count++)
+            try_refused(name, (struct word_list){ rule.words, count }, refusal(PEATNICKEL_NONE_LEFT, count));
+        memcpy(words, rule.words, rule.count * sizeof words[0]);
+        words[rule.count] = words[0];
+        spoiled.count = rule.count + 1;
+        try_refused(name, spoiled, refusal(PEATNICKEL_LEFT_OVER, rule.count));
+    }
 }
 
 /* The header of a file that says it holds so many words. */
@@ -285,8 +358,11 @@ static void bad_files(void)
 
 int main(void)
 {
+    replies();
     worked_cases();
     case_o();
+    places();
+    spoiled_cases();
     longest_rules();
     longest_files();
     bad_files();

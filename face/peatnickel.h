@@ -10,8 +10,11 @@
  *
  * - What is lent is a pointer and a length, in words or in bytes. Of an empty one the pointer is never read.
  * - The reply is one number. Below 65,536 it is a count, which never reaches that: an image has at most 28,672 words, and its
- *   file 57,351 bytes. From 65,536 on it is a refusal, 65,536 and the refusal's number. The reply and all that a call leaves
- *   in an output are determined by what was lent.
+ *   file 57,351 bytes. From 65,536 on it is a refusal: what it has above 65,536 holds the refusal's number in its low 16 bits
+ *   and the refusal's place in its high 16 bits. The reply and all that a call leaves in an output are determined by what was
+ *   lent.
+ * - Refusals 3 to 8 carry the place of the word tested, counted from 0; 3 carries the number of words given. All other
+ *   refusals carry place 0. No place is more than 4,096.
  * - A refusal leaves every buffer as it was. Success fills the front of the output; the rest of it is as it was.
  * - No call keeps anything, waits, allocates memory, or fails to return. The stack that each uses is in docs/COST.md.
  * - Any words, any bytes and any lengths may be lent. What the functions cannot see is the caller's part: each pointer is to
@@ -27,10 +30,10 @@
 extern "C" {
 #endif
 
-/* Where the refusals start. */
+/* Where the refusals start, and what a place counts for: a refusal is 65,536 + its number + 65,536 * its place. */
 #define PEATNICKEL_REFUSALS UINT32_C(65536)
 
-/* The refusals: what a reply has above PEATNICKEL_REFUSALS. */
+/* The refusals' numbers. */
 enum peatnickel_refusal {
     PEATNICKEL_NO_FORM = 0,        /* the number told is no form's; of the face alone, the paper's numbers start at 1 */
     PEATNICKEL_NO_WORDS = 1,       /* no words */
@@ -51,7 +54,7 @@ enum peatnickel_refusal {
 #define PEATNICKEL_RULES UINT32_C(0)  /* mark LRS */
 #define PEATNICKEL_IMAGES UINT32_C(1) /* mark LRI */
 
-/* Whether a reply is a refusal, and which. */
+/* Whether a reply is a refusal; and of one that is, its number and its place. */
 static inline int peatnickel_is_refusal(uint32_t reply)
 {
     return reply >= PEATNICKEL_REFUSALS;
@@ -59,28 +62,39 @@ static inline int peatnickel_is_refusal(uint32_t reply)
 
 static inline uint32_t peatnickel_refusal_of(uint32_t reply)
 {
-    return reply - PEATNICKEL_REFUSALS;
+    return (reply - PEATNICKEL_REFUSALS) % PEATNICKEL_REFUSALS;
 }
 
-/* Whether the words are a rule: 0, or a refusal 1 to 8. */
+static inline uint32_t peatnickel_place_of(uint32_t reply)
+{
+    return (reply - PEATNICKEL_REFUSALS) / PEATNICKEL_REFUSALS;
+}
+
+/* Whether the words are a rule: 0, or a refusal 1 to 8, from 3 on with the place of the word tested. */
 uint32_t peatnickel_check(const uint16_t *words, size_t word_count);
 
-/* How many words the image of the rule has, or a refusal 1 to 8. At most seven for each word of the rule. */
+/*
+ * How many words the image of the rule has, or a refusal 1 to 8, the one that peatnickel_check gives. At most seven for each
+ * word of the rule.
+ */
 uint32_t peatnickel_measure(const uint16_t *words, size_t word_count);
 
-/* Writes the image of the rule at the front of the output: its word count, or a refusal 1 to 9. */
+/*
+ * Writes the image of the rule at the front of the output: its word count, or a refusal 1 to 9. The refusals 1 to 8 are those
+ * that peatnickel_check gives, whatever the room; 9 is at place 0.
+ */
 uint32_t peatnickel_write(uint16_t *out, size_t out_count, const uint16_t *words, size_t word_count);
 
 /*
- * Writes the file of the words, of the form told, at the front of the output: the bytes written, or a refusal 0, 1, 2 or 9.
- * Reads no terms. The form is PEATNICKEL_RULES or PEATNICKEL_IMAGES; any other number gets refusal 0 and nothing else is
- * looked at.
+ * Writes the file of the words, of the form told, at the front of the output: the bytes written, or a refusal 0, 1, 2 or 9,
+ * all at place 0. Reads no terms. The form is PEATNICKEL_RULES or PEATNICKEL_IMAGES; any other number gets refusal 0 and
+ * nothing else is looked at.
  */
 uint32_t peatnickel_pack(uint8_t *out, size_t out_count, uint32_t form, const uint16_t *words, size_t word_count);
 
 /*
  * Writes the words of a file, of the form told, at the front of the output: how many, or a refusal 0, 10, 11, 12, 1, 2 or 9,
- * tested in this order. Reads no terms. The form is told as in peatnickel_pack.
+ * tested in this order and all at place 0. Reads no terms. The form is told as in peatnickel_pack.
  */
 uint32_t peatnickel_unpack(uint16_t *out, size_t out_count, uint32_t form, const uint8_t *bytes, size_t byte_count);
 
