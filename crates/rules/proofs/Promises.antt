@@ -74,12 +74,12 @@ demand2 ws out o a t q h = go (demand1 ws out o a h)
     go (no-room {t = u} k l) =
         let z : u ≡ t = same-term k q in
         let l' : length out < length (words images (image t)) = rw z at l in
-        record { fits = λ m. absurd (omega arith); longer = λ e. l' }
+        record { fits = λ m. absurd (omega arith); longer = λ p e. l' }
     go (writing {t = u} k e l p) =
         let z : u ≡ t = same-term k q in
         let e' = rw z at e in
         let p' = rw (z, e') at p in
-        record { fits = λ m. (ap Count e', p'); longer = λ x. never cc }
+        record { fits = λ m. (ap Count e', p'); longer = λ i x. never cc }
 
 -- the front of what was written
 front : (ws out o : List ℕ) (n : ℕ) (t : Term) → read ws ≡ accepted t → Allows (write ws out) (Count n, o) → words images (image t) ≡ take n o

@@ -19,8 +19,8 @@ abbrev pub Determined : Type 0
 Determined = (c : Call) (x y : Result c) → Allows c x → Allows c y → x ≡ y
 
 -- what comes of writing the words ws into the output out: the answer, and what the output then holds.
--- refusing: the refusal of the checks in order, with the place of the word tested; "leaves all that was lent unchanged". no-room: "the lent output is shorter than what is to be
--- written". writing: "the image fills the front of the output and every later word is unchanged".
+-- refusing: the refusal of the checks in order, with the place of the word tested; "leaves all that was lent unchanged". no-room: "the lent output is
+-- shorter than what is to be written". writing: "the image fills the front of the output and every later word is unchanged".
 pub data Replied (ws out : List ℕ) : Answer → List ℕ → Type 0 where
   refusing : {e p : ℕ} → read ws ≡ refused e p → Replied ws out (Refusal e p) out
   no-room : {t : Term} → read ws ≡ accepted t → length out < length (words images (image t)) → Replied ws out (Refusal 9 noPlace) out
@@ -35,7 +35,7 @@ Demand1 = (ws out o : List ℕ) (a : Answer) → Allows (write ws out) (a, o) �
 pub record Written (t : Term) (out o : List ℕ) (a : Answer) : Type 0 where
   pub fits : length (words images (image t)) ≤ length out → (a ≡ Count (length (words images (image t))))
       × (o ≡ words images (image t) ++ drop (length (words images (image t))) out)
-  pub longer : a ≡ Refusal 9 noPlace → length out < length (words images (image t))
+  pub longer : (p : ℕ) → a ≡ Refusal 9 p → length out < length (words images (image t))
 
 abbrev pub Demand2 : Type 0
 Demand2 = (ws out o : List ℕ) (a : Answer) (t : Term) → read ws ≡ accepted t → Allows (write ws out) (a, o) → Written t out o a

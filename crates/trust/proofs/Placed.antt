@@ -3,7 +3,7 @@
 -- that what it comes to within the first k words of the one it comes to in the other.
 -- Assumes nothing.
 use Prim.Native.Nat.{ℕ, zero, suc, _+_, _%_, _<_, _≤_}
-use mathlib.Core.Path.{_≡_, refl, sym, ap, _∙_}
+use mathlib.Core.Path.{_≡_, refl, ap, _∙_}
 use mathlib.Core.Bool.{Bool, true, false, cond}
 use mathlib.Core.List.{List, _++_}
 use native.Mathlib.Omega.{arith}
@@ -11,10 +11,10 @@ use lib.Dec.{ltb, leb, eqb}
 use lib.ListN.{length, getD, take, length-append, List·getD-append}
 use lib.Seq.{length-take-le, getD-take}
 use borrow.Author.Tests.{lt-ltb, le-ltb, ne-eqb, ltb-true, ltb-false}
-use Rattle.language.specs.Term.{Term, Terms, Arms, var, fun, call, bind, con, cases, nil, cons, none, arm}
+use Rattle.language.specs.Term.{Term, var, fun, call, bind, con, cases, nil, cons, none, arm}
 use Rattle.language.specs.Kinds.{mostArguments, atTerm, atArm, rowOf, tested, headOf}
 use Rattle.language.specs.Limits.{deepest, mostWords}
-use Rattle.language.specs.Read.{noPlace, Got, found, fault, then, made, word, headed, second, many, armsOf, opened, term, Reading, refused, reading, ended, read}
+use Rattle.language.specs.Read.{noPlace, Got, found, fault, then, made, word, headed, second, many, armsOf, opened, term, refused, reading, ended, read}
 use Rattle.language.specs.declared.Parts.{Parts}
 use Rattle.language.specs.declared.Parts.the-variants.{Nothing, Body, FunctionAndArguments, BoundAndBody, CountAndArguments, SubjectAndArms, ArityAndBody}
 use Rattle.language.specs.declared.Row.{Row}
