@@ -37,7 +37,7 @@ data Settled (k : ℕ) {A : Type 0} : Got A → Type 0 where
   by-end : {a : A} {to : ℕ} → to ≤ k → Settled k (found a to)
   by-fault : {e p : ℕ} → 4 ≤ e → p < k → Settled k (fault e p)
 
--- of readings g and h of two tables, s the first: where g is settled by the first k words, it used those before `at`, and h is the same
+-- of readings g and h of two tables, s the first: where g is settled by the first k words, these reach to `at` at least, and h is the same
 record Alike (s : List ℕ) (k at : ℕ) {A : Type 0} (g h : Got A) : Type 0 where
   tells : Tells s g
   same : Settled k g → (at ≤ k) × (h ≡ g)
