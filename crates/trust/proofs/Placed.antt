@@ -72,6 +72,17 @@ module _ (s u : List ℕ) (k : ℕ) (agree : (i : ℕ) → i < k → i < length 
   from : {A : Type 0} {at to : ℕ} {g h : Got A} → at ≤ to → Alike s k to g h → Alike s k at g h
   from l x = record { tells = x .tells; same = λ d. let y = x .same d in (omega (arith, y .0), y .1) }
 
+  -- a fault of a part is the whole's
+  passed-on : {A B : Type 0} {at e p : ℕ} {h : Got A} {h' : Got B} → Alike s k at {A = A} (fault e p) h → (h ≡ fault e p → h' ≡ fault e p)
+      → Alike s k at {A = B} (fault e p) h'
+  passed-on {A} {B} {at} {e} {p} {h} {h'} x f = record { tells = go (x .tells); same = done }
+    where
+      go : Tells s {A = A} (fault e p) → Tells s {A = B} (fault e p)
+      go (faults t) = faults t
+
+      done : Settled k {A = B} (fault e p) → (at ≤ k) × (h' ≡ fault e p)
+      done (by-fault l m) = let w = x .same (by-fault l m) in (w .0, f (w .1))
+
   then-alike : {A B : Type 0} {at : ℕ} (g : Got A) {h : Got A} {f f' : A → ℕ → Got B} → Alike s k at g h
       → ((a : A) (to : ℕ) → Alike s k to (f a to) (f' a to)) → Alike s k at (then g f) (then h f')
   unfolding then
@@ -79,13 +90,7 @@ module _ (s u : List ℕ) (k : ℕ) (agree : (i : ℕ) → i < k → i < length 
     tells = y a to .tells;
     same = λ d. let z = y a to .same d in let w = x .same (by-end (z .0)) in (w .0, rw (w .1) (z .1));
   }
-  then-alike {B} {at} (fault e p) {h} {f' = f'} x y = record { tells = go (x .tells); same = done }
-    where
-      go : {A : Type 0} → Tells s {A = A} (fault e p) → Tells s {A = B} (fault e p)
-      go (faults t) = faults t
-
-      done : Settled k {A = B} (fault e p) → (at ≤ k) × (then h f' ≡ fault e p)
-      done (by-fault l m) = let w = x .same (by-fault l m) in (w .0, rw (w .1))
+  then-alike (fault e p) x y = passed-on x (λ w. rw w)
 
   made-alike : {A B : Type 0} {at : ℕ} (g : Got A) {h : Got A} (f : A → B) → Alike s k at g h → Alike s k at (made f g) (made f h)
   unfolding made
@@ -93,13 +98,7 @@ module _ (s u : List ℕ) (k : ℕ) (agree : (i : ℕ) → i < k → i < length 
     where
       go : Settled k (found (f a) to) → (at ≤ k) × (made f h ≡ found (f a) to)
       go (by-end l) = let w = x .same (by-end l) in (w .0, rw (w .1))
-  made-alike {B} {at} (fault e p) {h} f x = record { tells = go (x .tells); same = done }
-    where
-      go : {A : Type 0} → Tells s {A = A} (fault e p) → Tells s {A = B} (fault e p)
-      go (faults t) = faults t
-
-      done : Settled k {A = B} (fault e p) → (at ≤ k) × (made f h ≡ fault e p)
-      done (by-fault l m) = let w = x .same (by-fault l m) in (w .0, rw (w .1))
+  made-alike (fault e p) f x = passed-on x (λ w. rw w)
 
   test-alike : {A : Type 0} {at : ℕ} (b : Bool) {g h g' h' : Got A} → Alike s k at g h → Alike s k at g' h' → Alike s k at (cond b g g') (cond b h h')
   test-alike true x y = x
