@@ -178,15 +178,19 @@ static void try_bad_pack(const char *name, uint32_t form, struct word_list words
     expect(painted_from(0, 0), "output of a refusal is untouched", name);
 }
 
+static void refused_rules(const struct refused_case *cases, size_t count)
+{
+    for (size_t i = 0; i < count; i++)
+        try_refused(cases[i].name, cases[i].rule, reply_of(cases[i].refusal));
+}
+
 /* Cases A to N, and of the other images B's, which the paper prints. */
 static void worked_cases(void)
 {
-    char name[] = "case ?";
-
     for (size_t i = 0; i < ACCEPTED_CASES; i++) {
+        const char *name = accepted_cases[i].name;
         struct word_list image = peer_image(accepted_cases[i].rule);
 
-        name[5] = accepted_cases[i].name;
         expect(image.count == accepted_cases[i].image_count, "the paper's count", name);
         try_accepted(name, accepted_cases[i].rule, image);
         try_file(name, PEATNICKEL_RULES, accepted_cases[i].rule, NULL);
@@ -194,10 +198,7 @@ static void worked_cases(void)
     }
     try_accepted("case B, the paper's image", accepted_cases[1].rule, case_b_image);
     try_file("case B, the paper's file", PEATNICKEL_RULES, accepted_cases[1].rule, case_b_file.bytes);
-    for (size_t i = 0; i < REFUSED_CASES; i++) {
-        name[5] = refused_cases[i].name;
-        try_refused(name, refused_cases[i].rule, reply_of(refused_cases[i].refusal));
-    }
+    refused_rules(refused_cases, REFUSED_CASES);
     paint();
     expect_reply(peatnickel_write(words_out, N_SHORT_OUTPUT, accepted_cases[0].rule.words, 2), placeless(PEATNICKEL_NO_ROOM),
                  "7 words", "case N");
@@ -259,13 +260,6 @@ static void replies(void)
     expect(!peatnickel_is_refusal(0) && !peatnickel_is_refusal(PEATNICKEL_REFUSALS - 1), "counts", "replies");
 }
 
-/* Rules that tell the right place from one near it. */
-static void places(void)
-{
-    for (size_t i = 0; i < PLACE_CASES; i++)
-        try_refused(place_cases[i].name, place_cases[i].rule, reply_of(place_cases[i].refusal));
-}
-
 /*
  * Cases A to G with one word wrong, cut, and with a word more. A word that is wrong wherever it stands is the word tested;
  * whether as a head or as a second word, and so the number, the second translator says.
@@ -273,13 +267,12 @@ static void places(void)
 static void spoiled_cases(void)
 {
     static uint16_t words[RULE_MOST];
-    char name[] = "case ?, spoiled";
 
     for (size_t i = 0; i < ACCEPTED_CASES; i++) {
+        const char *name = accepted_cases[i].name;
         struct word_list rule = accepted_cases[i].rule;
         struct word_list spoiled = { words, rule.count };
 
-        name[5] = accepted_cases[i].name;
         for (size_t place = 0; place < rule.count; place++) {
             memcpy(words, rule.words, rule.count * sizeof words[0]);
             words[place] = WRONG_WORD;
@@ -361,7 +354,7 @@ int main(void)
     replies();
     worked_cases();
     case_o();
-    places();
+    refused_rules(place_cases, PLACE_CASES);
     spoiled_cases();
     longest_rules();
     longest_files();

@@ -1,38 +1,39 @@
 #include "cases.h"
 
 const struct accepted_case accepted_cases[ACCEPTED_CASES] = {
-    { 'A', WORD_LIST(0x0600, 0x0000), 8, WORD_LIST(0x0600, 0x0000), 2 },
-    { 'B', WORD_LIST(0x0401, 0x0201, 0x0100, 0x0600, 0x0000), 27,
+    { "case A", WORD_LIST(0x0600, 0x0000), 8, WORD_LIST(0x0600, 0x0000), 2 },
+    { "case B", WORD_LIST(0x0401, 0x0201, 0x0100, 0x0600, 0x0000), 27,
       WORD_LIST(0x0600, 0x0000), 8 },
-    { 'C',
+    { "case C",
       WORD_LIST(0x0402, 0x0202, 0x0101, 0x0600, 0x0000, 0x0601, 0x0000), 35,
       WORD_LIST(0x0600, 0x0000), 10 },
-    { 'D',
+    { "case D",
       WORD_LIST(0x0500, 0x0601, 0x0000, 0x0702, 0x0100, 0x0800, 0x0000, 0x0100,
                 0x0801, 0x0000, 0x0602, 0x0000),
       41, WORD_LIST(0x0602, 0x0000), 8 },
-    { 'E',
+    { "case E",
       WORD_LIST(0x0603, 0x0001, 0x0401, 0x0201, 0x0100, 0x0600, 0x0000), 35,
       WORD_LIST(0x0603, 0x0001, 0x0600, 0x0000), 10 },
-    { 'F',
+    { "case F",
       WORD_LIST(0x0401, 0x0301, 0x0702, 0x0100, 0x0800, 0x0000, 0x0600, 0x0000,
                 0x0801, 0x0001, 0x0401, 0x0102, 0x0100, 0x0601, 0x0001, 0x0600,
                 0x0000),
       64, WORD_LIST(0x0600, 0x0000), 20 },
-    { 'G', WORD_LIST(0x0601, 0x0001, 0x0600, 0x0000), 10,
+    { "case G", WORD_LIST(0x0601, 0x0001, 0x0600, 0x0000), 10,
       WORD_LIST(0x0601, 0x0001, 0x0600, 0x0000), 2 },
 };
 
 const struct refused_case refused_cases[REFUSED_CASES] = {
-    { 'H', { NULL, 0 }, { REFUSED_NO_WORDS, 0 } },
-    { 'I', WORD_LIST(0x0100), { REFUSED_UNBOUND, 0 } },
-    { 'J', WORD_LIST(0x0401, 0x0201, 0x0100), { REFUSED_WORD_MISSING, 3 } },
-    { 'K', WORD_LIST(0x0200, 0x0100), { REFUSED_RANGE, 0 } },
-    { 'L', WORD_LIST(0x0600, 0x0000, 0x0600), { REFUSED_WORDS_LEFT, 2 } },
-    { 'M', WORD_LIST(0x0A00), { REFUSED_KIND, 0 } },
+    { "case H", { NULL, 0 }, { REFUSED_NO_WORDS, 0 } },
+    { "case I", WORD_LIST(0x0100), { REFUSED_UNBOUND, 0 } },
+    { "case J", WORD_LIST(0x0401, 0x0201, 0x0100),
+      { REFUSED_WORD_MISSING, 3 } },
+    { "case K", WORD_LIST(0x0200, 0x0100), { REFUSED_RANGE, 0 } },
+    { "case L", WORD_LIST(0x0600, 0x0000, 0x0600), { REFUSED_WORDS_LEFT, 2 } },
+    { "case M", WORD_LIST(0x0A00), { REFUSED_KIND, 0 } },
 };
 
-const struct place_case place_cases[PLACE_CASES] = {
+const struct refused_case place_cases[PLACE_CASES] = {
     { "constructor's missing second word",
       WORD_LIST(0x0602, 0x0002, 0x0600, 0x0000, 0x0601),
       { REFUSED_WORD_MISSING, 5 } },

@@ -9,7 +9,7 @@
 #include "words.h"
 
 struct accepted_case {
-    char name;
+    const char *name;
     struct word_list rule;
     size_t image_count;
     struct word_list value;
@@ -17,13 +17,6 @@ struct accepted_case {
 };
 
 struct refused_case {
-    char name;
-    struct word_list rule;
-    struct refusal refusal;
-};
-
-/* A rule refused at one of its parts, where another place lies near. */
-struct place_case {
     const char *name;
     struct word_list rule;
     struct refusal refusal;
@@ -39,7 +32,8 @@ enum { N_SHORT_OUTPUT = 7, N_LONG_ENOUGH_OUTPUT = 8 };
 
 extern const struct accepted_case accepted_cases[ACCEPTED_CASES]; /* A to G */
 extern const struct refused_case refused_cases[REFUSED_CASES];    /* H to M */
-extern const struct place_case place_cases[PLACE_CASES];
+/* Rules refused at one of their parts, where another place lies near. */
+extern const struct refused_case place_cases[PLACE_CASES];
 
 extern const struct word_list case_b_image;
 extern const struct byte_list case_b_file;

@@ -6,59 +6,10 @@
 
 #include "cases.h"
 #include "demand3.h"
-#include "file.h"
 #include "gen_record.h"
 #include "image.h"
-
-enum {
-    LENT_WORDS = 128,
-    LENT_BYTES = 64,
-    COUNT_LOW_BYTE = 5,
-    UNTOUCHED_WORD = 0xA5A5,
-    UNTOUCHED_BYTE = 0xA5
-};
-
-struct tally {
-    FILE *out;
-    size_t passed;
-    size_t failed;
-};
-
-static void expect(struct tally *tally, bool holds, char name,
-                   const char *claim)
-{
-    if (holds) {
-        tally->passed++;
-        return;
-    }
-    tally->failed++;
-    fprintf(tally->out, "selftest: %c: not so: %s\n", name, claim);
-}
-
-static bool is_refusal(struct refusal found, struct refusal expected)
-{
-    return found.number == expected.number && found.place == expected.place;
-}
-
-/* "All other refusals carry place 0." */
-static bool is_placeless(struct refusal found, enum refusal_number number)
-{
-    return is_refusal(found, (struct refusal){ number, 0 });
-}
-
-static void lend_words(uint16_t *words)
-{
-    for (size_t i = 0; i < LENT_WORDS; i++)
-        words[i] = UNTOUCHED_WORD;
-}
-
-static bool untouched_from(const uint16_t *words, size_t first)
-{
-    for (size_t i = first; i < LENT_WORDS; i++)
-        if (words[i] != UNTOUCHED_WORD)
-            return false;
-    return true;
-}
+#include "selftest_files.h"
+#include "tally.h"
 
 static void try_writing(struct tally *tally, const struct accepted_case *it)
 {
@@ -160,24 +111,9 @@ static void try_run_cases(struct tally *tally)
                                    it->value) &&
                    counts_are(&runs.of_rule.counts, &it->counts) &&
                    demand3_agreement(&arena, &runs) == AGREED,
-               'r', it->claim);
+               "runs", it->claim);
         arena_release(&arena);
     }
-}
-
-static void try_refused(struct tally *tally, const struct refused_case *it)
-{
-    uint16_t output[LENT_WORDS];
-
-    lend_words(output);
-    struct reply reply = write_image(it->rule, output, LENT_WORDS);
-    expect(tally, is_refusal(check_rule(it->rule), it->refusal), it->name,
-           "refusal and place by the checking call");
-    expect(tally, is_refusal(measure_image(it->rule).refusal, it->refusal),
-           it->name, "refusal and place by the measuring call");
-    expect(tally, is_refusal(reply.refusal, it->refusal), it->name,
-           "refusal and place by the writing call");
-    expect(tally, untouched_from(output, 0), it->name, "output unchanged");
 }
 
 static bool every_call_refuses(struct word_list rule, struct refusal refusal)
@@ -192,14 +128,12 @@ static bool every_call_refuses(struct word_list rule, struct refusal refusal)
            untouched_from(output, 0);
 }
 
-static void try_places(struct tally *tally)
+static void try_refused(struct tally *tally, const struct refused_case *cases,
+                        size_t count)
 {
-    for (size_t i = 0; i < PLACE_CASES; i++) {
-        const struct place_case *it = &place_cases[i];
-
-        expect(tally, every_call_refuses(it->rule, it->refusal), 'p',
-               it->name);
-    }
+    for (size_t i = 0; i < count; i++)
+        expect(tally, every_call_refuses(cases[i].rule, cases[i].refusal),
+               cases[i].name, "refused by every call, with its place");
 }
 
 /* A word more than a rule may have is not read; without it one is missing. */
@@ -212,10 +146,10 @@ static void try_highest_place(struct tally *tally)
 
     put_filler(&sink, RULE_WORDS_MOST + 1);
     struct word_list rule = sink_words(&sink);
-    expect(tally, every_call_refuses(rule, too_many), 'p',
+    expect(tally, every_call_refuses(rule, too_many), "places",
            "one word more than a rule may have");
     rule.count--;
-    expect(tally, every_call_refuses(rule, missing), 'p',
+    expect(tally, every_call_refuses(rule, missing), "places",
            "as many words as a rule may have, and one is missing");
 }
 
@@ -231,7 +165,7 @@ static void try_printing(struct tally *tally)
         line[fread(line, sizeof line[0], sizeof line - 1, file)] = '\0';
         fclose(file);
     }
-    expect(tally, strcmp(line, "no 5 17\n") == 0, 'p', "a refusal's line");
+    expect(tally, strcmp(line, "no 5 17\n") == 0, "places", "a refusal's line");
 }
 
 static void try_case_b_image(struct tally *tally)
@@ -241,7 +175,8 @@ static void try_case_b_image(struct tally *tally)
         write_image(accepted_cases[1].rule, output, LENT_WORDS);
     struct word_list found = { output, reply.count };
 
-    expect(tally, words_are_equal(found, case_b_image), 'B', "whole image");
+    expect(tally, words_are_equal(found, case_b_image), "case B",
+           "whole image");
 }
 
 static void try_case_n(struct tally *tally)
@@ -251,13 +186,13 @@ static void try_case_n(struct tally *tally)
 
     lend_words(output);
     struct reply reply = write_image(rule, output, N_SHORT_OUTPUT);
-    expect(tally, is_placeless(reply.refusal, REFUSED_OUTPUT_SHORT), 'N',
+    expect(tally, is_placeless(reply.refusal, REFUSED_OUTPUT_SHORT), "case N",
            "refused with 7 words");
-    expect(tally, untouched_from(output, 0), 'N', "output unchanged");
+    expect(tally, untouched_from(output, 0), "case N", "output unchanged");
     reply = write_image(rule, output, N_LONG_ENOUGH_OUTPUT);
-    expect(tally, reply.count == N_LONG_ENOUGH_OUTPUT, 'N',
+    expect(tally, reply.count == N_LONG_ENOUGH_OUTPUT, "case N",
            "written with 8 words");
-    expect(tally, untouched_from(output, N_LONG_ENOUGH_OUTPUT), 'N',
+    expect(tally, untouched_from(output, N_LONG_ENOUGH_OUTPUT), "case N",
            "later words unchanged");
 }
 
@@ -269,136 +204,12 @@ static void try_case_o(struct tally *tally)
     struct word_sink accepted = sink_into(words, LENT_WORDS);
 
     put_case_o(&refused, O_REFUSED_FUNCTIONS);
-    expect(tally, every_call_refuses(sink_words(&refused), too_deep), 'O',
+    expect(tally, every_call_refuses(sink_words(&refused), too_deep), "case O",
            "refused with 64 functions");
     put_case_o(&accepted, O_ACCEPTED_FUNCTIONS);
     expect(tally,
-           check_rule(sink_words(&accepted)).number == REFUSED_NOTHING, 'O',
-           "accepted with 63 functions");
-}
-
-static void try_packing(struct tally *tally)
-{
-    uint8_t bytes[LENT_BYTES];
-    uint16_t words[LENT_WORDS];
-    struct word_list rule = accepted_cases[1].rule;
-
-    memset(bytes, UNTOUCHED_BYTE, sizeof bytes);
-    lend_words(words);
-    struct reply packed = pack_file(FORM_RULE, rule, bytes, sizeof bytes);
-    expect(tally,
-           packed.count == case_b_file.count &&
-               memcmp(bytes, case_b_file.bytes, packed.count) == 0,
-           'B', "packed file");
-    expect(tally, bytes[packed.count] == UNTOUCHED_BYTE, 'B',
-           "bytes past the file are unchanged");
-    struct reply unpacked =
-        unpack_file(FORM_RULE, case_b_file, words, rule.count);
-    struct word_list found = { words, unpacked.count };
-    expect(tally, words_are_equal(found, rule), 'B', "unpacked words");
-    expect(tally, untouched_from(words, rule.count), 'B',
-           "words past the rule are unchanged");
-}
-
-struct refused_file {
-    const char *claim;
-    enum file_form form;
-    uint8_t bytes[LENT_BYTES];
-    size_t count;
-    size_t capacity;
-    enum refusal_number number;
-};
-
-/* Each stands for one test; where two fail, the earlier one replies. */
-static const struct refused_file refused_files[] = {
-    { "empty file", FORM_RULE, { 0 }, 0, 8, REFUSED_MARK },
-    { "six bytes", FORM_RULE, "LRS\1\0\0", 6, 8, REFUSED_MARK },
-    { "mark of the other form", FORM_IMAGE, "LRS\1\0\1\0\0\6", 9, 8,
-      REFUSED_MARK },
-    { "mark before version", FORM_RULE, "LRI\2\0\1\0\0\6", 9, 8,
-      REFUSED_MARK },
-    { "version 2", FORM_RULE, "LRS\2\0\1\0\0\6", 9, 8, REFUSED_VERSION },
-    { "version 257, wrong length", FORM_RULE, "LRS\1\1\1\0\0", 8, 8,
-      REFUSED_VERSION },
-    { "one byte short", FORM_RULE, "LRS\1\0\1\0\0", 8, 8,
-      REFUSED_FILE_LENGTH },
-    { "one byte over", FORM_RULE, "LRS\1\0\1\0\0\6\0", 10, 8,
-      REFUSED_FILE_LENGTH },
-    { "no words but a byte", FORM_RULE, "LRS\1\0\0\0\0", 8, 8,
-      REFUSED_FILE_LENGTH },
-    { "no words", FORM_RULE, "LRS\1\0\0\0", 7, 0, REFUSED_NO_WORDS },
-    { "output short", FORM_RULE, "LRS\1\0\1\0\0\6", 9, 0,
-      REFUSED_OUTPUT_SHORT },
-};
-
-static void try_refused_files(struct tally *tally)
-{
-    for (size_t i = 0; i < sizeof refused_files / sizeof refused_files[0];
-         i++) {
-        const struct refused_file *it = &refused_files[i];
-        struct byte_list file = { it->bytes, it->count };
-        uint16_t words[LENT_WORDS];
-
-        lend_words(words);
-        struct reply reply = unpack_file(it->form, file, words, it->capacity);
-        expect(tally,
-               is_placeless(reply.refusal, it->number) &&
-                   untouched_from(words, 0),
-               'f', it->claim);
-    }
-}
-
-/* The longest file of a form comes back whole; one word more is refused. */
-static void try_longest(struct tally *tally, enum file_form form, size_t most)
-{
-    size_t room = FILE_HEADER_BYTES + BYTES_OF_A_WORD * (most + 1);
-    uint8_t *bytes = calloc(room, sizeof bytes[0]);
-    uint16_t *words = calloc(most + 1, sizeof words[0]);
-    uint16_t *back = calloc(most + 1, sizeof back[0]);
-    struct word_list longest = { words, most };
-    struct word_list longer = { words, most + 1 };
-
-    for (size_t i = 0; i < most; i++)
-        words[i] = (uint16_t)(i * i);
-    expect(tally,
-           is_placeless(pack_file(form, longer, bytes, room).refusal,
-                        REFUSED_TOO_MANY_WORDS),
-           'f', "packing one word too many");
-    struct reply packed = pack_file(form, longest, bytes, room);
-    struct byte_list file = { bytes, packed.count };
-    struct word_list found = { back,
-                               unpack_file(form, file, back, most).count };
-    expect(tally, words_are_equal(found, longest), 'f', "longest file");
-    bytes[COUNT_LOW_BYTE]++; /* the count's low byte is 0 for both limits */
-    file.count += BYTES_OF_A_WORD;
-    expect(tally,
-           is_placeless(unpack_file(form, file, back, most + 1).refusal,
-                        REFUSED_TOO_MANY_WORDS),
-           'f', "unpacking one word too many");
-    free(bytes);
-    free(words);
-    free(back);
-}
-
-static void try_packing_refusals(struct tally *tally)
-{
-    uint8_t bytes[LENT_BYTES];
-    struct word_list nothing = { NULL, 0 };
-    struct word_list rule = accepted_cases[1].rule;
-
-    memset(bytes, UNTOUCHED_BYTE, sizeof bytes);
-    expect(tally,
-           is_placeless(pack_file(FORM_RULE, nothing, bytes, 0).refusal,
-                        REFUSED_NO_WORDS),
-           'f', "packing no words");
-    expect(tally,
-           is_placeless(
-               pack_file(FORM_RULE, rule, bytes, case_b_file.count - 1)
-                   .refusal,
-               REFUSED_OUTPUT_SHORT),
-           'f', "packing into too few bytes");
-    expect(tally, bytes[0] == UNTOUCHED_BYTE, 'f',
-           "refused packing leaves the bytes unchanged");
+           check_rule(sink_words(&accepted)).number == REFUSED_NOTHING,
+           "case O", "accepted with 63 functions");
 }
 
 int run_selftest(FILE *out)
@@ -409,20 +220,15 @@ int run_selftest(FILE *out)
         try_writing(&tally, &accepted_cases[i]);
         try_running(&tally, &accepted_cases[i]);
     }
-    for (size_t i = 0; i < REFUSED_CASES; i++)
-        try_refused(&tally, &refused_cases[i]);
-    try_places(&tally);
+    try_refused(&tally, refused_cases, REFUSED_CASES);
+    try_refused(&tally, place_cases, PLACE_CASES);
     try_highest_place(&tally);
     try_printing(&tally);
     try_run_cases(&tally);
     try_case_b_image(&tally);
     try_case_n(&tally);
     try_case_o(&tally);
-    try_packing(&tally);
-    try_packing_refusals(&tally);
-    try_refused_files(&tally);
-    try_longest(&tally, FORM_RULE, RULE_WORDS_MOST);
-    try_longest(&tally, FORM_IMAGE, IMAGE_WORDS_MOST);
+    try_files(&tally);
     if (tally.failed > 0) {
         fprintf(out, "selftest: %zu failed\n", tally.failed);
         return EXIT_FAILURE;

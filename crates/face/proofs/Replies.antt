@@ -34,10 +34,13 @@ pub record Listed (e p : ℕ) : Type 0 where
   pub near : p ≤ mostWords
 
 -- what a refusal's place tells shows that both are listed
-placed-listed : {ws : List ℕ} {e p : ℕ} → Placed ws e p → Listed e p
-placed-listed (of-length a b) = record { first = a; last = omega arith; near = omega arith }
-placed-listed (of-end l) = record { first = omega arith; last = omega arith; near = l }
-placed-listed (of-word l a b i more) = record { first = omega arith; last = omega arith; near = omega arith }
+reading-listed : (ws : List ℕ) {e p : ℕ} → read ws ≡ refused e p → Listed e p
+reading-listed ws h = go (places-help ws _ _ h)
+  where
+    go : {e p : ℕ} → Placed ws e p → Listed e p
+    go (of-length a b) = record { first = a; last = omega arith; near = omega arith }
+    go (of-end l) = record { first = omega arith; last = omega arith; near = l }
+    go (of-word l a b i more) = record { first = omega arith; last = omega arith; near = omega arith }
 
 -- a success of which Q holds, or a refusal of document 01's
 pub data Fair {A : Type 0} (Q : A → Type 0) : Reply A → Type 0 where
@@ -63,7 +66,7 @@ checked-fair ws = go (read ws) refl
   where
     go : (g : Reading) → read ws ≡ g → Fair Any (checked g)
     go (accepted t) h = succeeds tt
-    go (refused e p) h = refused-as (placed-listed (places-help ws e p h))
+    go (refused e p) h = refused-as (reading-listed ws h)
 
 pub measured-fair : (ws : List ℕ) → Fair Count (measured (read ws))
 unfolding measured
@@ -71,7 +74,7 @@ measured-fair ws = go (read ws) refl
   where
     go : (g : Reading) → read ws ≡ g → Fair Count (measured g)
     go (accepted t) h = let k : Count (length (words images (image t))) = omega (arith, image-counts ws t h) in succeeds k
-    go (refused e p) h = refused-as (placed-listed (places-help ws e p h))
+    go (refused e p) h = refused-as (reading-listed ws h)
 
 -- of an outcome: its reply is fair
 pub record Counted (o : Outcome ℕ) : Type 0 where
@@ -96,7 +99,7 @@ written-counted ws out = go (read ws) refl
   where
     go : (g : Reading) → read ws ≡ g → Counted (written g out)
     go (accepted t) h = filled-counted (words images (image t)) out (omega (arith, image-counts ws t h))
-    go (refused e p) h = record { fair = refused-as (placed-listed (places-help ws e p h)) }
+    go (refused e p) h = record { fair = refused-as (reading-listed ws h) }
 
 most-most : (f : Form) → most f ≤ mostImageWords
 most-most Rules = omega arith

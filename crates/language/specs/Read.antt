@@ -85,13 +85,13 @@ abbrev pub reading : Got Term → Reading
 reading (found t to) = accepted t
 reading (fault e p) = refused e p
 
+-- "Lengths first: 1, then 2. Then the words are read from first to last": the closed term at a place, at full depth
+unfoldable pub closed : List ℕ → ℕ → Got Term
+closed s at = cond (eqb (length s) 0) (fault 1 noPlace) (cond (ltb mostWords (length s)) (fault 2 noPlace) (term s deepest 0 at))
+
 -- "After the rule's last word: 8."; "words left over; the first of them is the word tested"
 unfoldable pub ended : List ℕ → Term → ℕ → Got Term
 ended s t to = cond (ltb to (length s)) (fault 8 to) (found t to)
 
--- "Lengths first: 1, then 2." "Then the words are read from first to last"
 unfoldable pub read : List ℕ → Reading
-read s = reading
-    (cond (eqb (length s) 0) (fault 1 noPlace)
-    (cond (ltb mostWords (length s)) (fault 2 noPlace)
-    (then (term s deepest 0 0) (ended s))))
+read s = reading (then (closed s 0) (ended s))

@@ -93,14 +93,11 @@ digit-stored l at (suc k) n {o} z e =
     let f : o ≡ sets l at d = subst (λ (x : ℕ). o ≡ sets l at (digits 10 x (n / 10))) q e in
     store-last l at d (48 + n % 10) f p ∙ simp (lt-ltb (n % 10) 10 (omega arith))
 
--- a space and a number, and the letters before them
+-- a space and a number
 pub number-stored : (l : List ℕ) (at n : ℕ) {k : ℕ} {o : List ℕ} → k ≡ placesOf n → o ≡ sets (set l at space) (at + 1) (digits 10 k n)
     → o ≡ sets l at (numberText n)
 unfolding numberText
 number-stored l at n e f = rw (f, e) (simp towards-suc)
-
-pub start-stored : (l : List ℕ) (a b n : ℕ) {o : List ℕ} → o ≡ sets (set (set l 0 a) 1 b) 2 (numberText n) → o ≡ sets l 0 (a ∷ b ∷ numberText n)
-start-stored l a b n e = e
 
 number-length : (n : ℕ) → length (numberText n) ≡ placesOf n + 1
 unfolding numberText
@@ -118,6 +115,9 @@ listed-length n i [] = refl
 listed-length n i (w ∷ ws) = omega (arith, listed-length n (i + 1) ws)
 
 -- a line: its start is stored, and its end behind it
+line-length : (start : List ℕ) → length (line start) ≡ length start + 1
+line-length start = length-append start (newline ∷ [])
+
 line-stored : (out start : List ℕ) {o : List ℕ} {n : ℕ} → o ≡ sets out 0 start → n ≡ length start → set o n newline ≡ sets out 0 (line start)
 line-stored out start e k = store-last out 0 start newline e (omega arith)
 
@@ -127,7 +127,7 @@ module _ (e p : ℕ) (out : List ℕ) {k j : ℕ} (x : k ≡ placesOf e) (y : j 
   refusal-length = simp length-append (omega (arith, number-length e, number-length p))
 
   ended : length (line (noText e ++ numberText p)) ≡ k + 3 + 1 + j + 1
-  ended = simp length-append (omega (arith, number-length e, number-length p))
+  ended = omega (arith, line-length (noText e ++ numberText p), refusal-length)
 
   pub refusal-short : length out ≤ k + 3 + 1 + j → told (Refusal 9 noPlace) out ≡ filled (line (noText e ++ numberText p)) out
   refusal-short h = filled-short (line (noText e ++ numberText p)) out (omega (arith, ended))
@@ -144,7 +144,7 @@ module _ (n : ℕ) (ws out : List ℕ) {k : ℕ} (e : k ≡ placesOf n) where
   start-length = omega (arith, number-length n)
 
   text-length : length (line (okText n) ++ listed (length ws) 0 ws) ≡ k + 3 + 1 + 5 * length ws
-  text-length = simp length-append (omega (arith, number-length n, listed-length (length ws) 0 ws))
+  text-length = simp length-append (omega (arith, start-length, listed-length (length ws) 0 ws))
 
   pub image-short : length out ≤ k + 3 → told (Refusal 9 noPlace) out ≡ filled (line (okText n) ++ listed (length ws) 0 ws) out
   image-short h = filled-short (line (okText n) ++ listed (length ws) 0 ws) out (omega (arith, text-length))
@@ -159,7 +159,7 @@ module _ (n : ℕ) (ws out : List ℕ) {k : ℕ} (e : k ≡ placesOf n) where
   image-whole l h f g =
       filled-whole (line (okText n) ++ listed (length ws) 0 ws) out (omega (arith, text-length)) (sym text-length)
       (after out (line (okText n)) (listed (length ws) 0 ws) (line-stored out (okText n) f (sym start-length))
-      (simp length-append (omega (arith, start-length))) g)
+      (omega (arith, line-length (okText n), start-length)) g)
 
 -- the whole answer, by the reply
 pub refusal-shown : {a : Answer} {e p : ℕ} {x : Outcome ℕ} (ws out : List ℕ) → x ≡ filled (line (noText e ++ numberText p)) out → a ≡ Refusal e p
@@ -188,7 +188,6 @@ pub ruleset ways = (
   no-digits,
   digit-stored,
   number-stored,
-  start-stored,
   refusal-short,
   refusal-whole,
   image-short,

@@ -10,7 +10,7 @@ use Rattle.language.specs.Sub.{sub}
 use Rattle.language.specs.Run.{atom, rev, itself, Counts, count}
 use Rattle.language.specs.Image.{downto, passing, carried, image}
 use Rattle.language.specs.Kinds.{headOf}
-use Rattle.language.specs.Read.{Reading, accepted, refused, then, made, second, many, armsOf, opened, term, ended, read}
+use Rattle.language.specs.Read.{Reading, accepted, refused, then, made, second, many, armsOf, opened, term, closed, ended, read}
 use Rattle.language.proofs.Eval.{Ran, eval}
 use Rattle.meaning.specs.Promises.{applications}
 use Rattle.language.specs.Cases.{Each}
@@ -67,5 +67,5 @@ all-computed [] h = tt
 all-computed (x ∷ xs) h = (computed x (read (x .rule)) refl (h .0), all-computed xs (h .1))
 
 pub worked-runs : WorkedRuns
-unfolding read ended term then made second many armsOf opened headOf words image passing downto atom size sub rev itself eval count
+unfolding read closed ended term then made second many armsOf opened headOf words image passing downto atom size sub rev itself eval count
 worked-runs = all-computed ran (refl, (refl, (refl, (refl, (refl, (refl, (refl, tt)))))))

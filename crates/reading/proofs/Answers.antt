@@ -14,11 +14,11 @@ use borrow.Author.Needs.{needs}
 use borrow.Author.Tests.{lt-ltb, le-ltb, eq-eqb, ne-eqb, ltb-false}
 use Rattle.language.specs.Term.{Term}
 use Rattle.language.specs.Limits.{deepest, mostWords}
-use Rattle.language.specs.Read.{noPlace, Got, found, fault, then, term, Reading, accepted, refused, reading, ended, read}
+use Rattle.language.specs.Read.{noPlace, Got, found, fault, then, term, Reading, accepted, refused, reading, closed, ended, read}
 use Rattle.language.specs.Calls.{Reply, success, replyOf, checked, measured}
 use Rattle.sizes.specs.Lengths.{passingLength, imageLength}
 use Rattle.sizes.proofs.Lengths.{of-image}
-use Rattle.reading.specs.Steps.{imageWords, stepOf, termStep, closed, wordsOf}
+use Rattle.reading.specs.Steps.{imageWords, stepOf, termStep, wordsOf}
 use Rattle.reading.specs.Answers.{checkedReply}
 use Rattle.reading.specs.declared.Step.{Step}
 use Rattle.reading.specs.declared.Step.the-variants.{Next, No}
@@ -56,16 +56,6 @@ closed-small s at h = go (eqb (length s) 0) (ltb mostWords (length s)) (ltb-fals
     go false false few h = omega (arith, term-small s deepest 0 at h, few refl)
 
 -- a rule is such a term with no words left over
-read-closed : (s : List ℕ) → read s ≡ reading (then (closed s 0) (ended s))
-unfolding read closed then
-read-closed s = go (eqb (length s) 0) (ltb mostWords (length s))
-  where
-    go : (b c : Bool) → reading (cond b (fault 1 noPlace) (cond c (fault 2 noPlace) (then (term s deepest 0 0) (ended s))))
-        ≡ reading (then (cond b (fault 1 noPlace) (cond c (fault 2 noPlace) (term s deepest 0 0))) (ended s))
-    go true c = refl
-    go false true = refl
-    go false false = refl
-
 stopped : (g : Got Term) (f : Term → ℕ → Got Term) {y : Step} {e p : ℕ} → y ≡ termStep g → y ≡ No e p
     → replyOf (answer.Refusal e p) ≡ measured (reading (then g f))
 unfolding stepOf then replyOf measured
@@ -80,15 +70,16 @@ went (fault n at) f h k next = never cc
 
 module _ (s : List ℕ) {y : Step} (h : y ≡ termStep (closed s 0)) where
   pub m-stop : {e p : ℕ} → y ≡ No e p → replyOf (answer.Refusal e p) ≡ measured (read s)
-  m-stop k = rw (read-closed s) (stopped _ _ h k)
+  unfolding read
+  m-stop k = stopped _ _ h k
 
   pub m-left : {to c : ℕ} {b : Bool} → y ≡ Next to b c → to < length s → replyOf (answer.Refusal 8 to) ≡ measured (read s)
-  unfolding replyOf measured ended
-  m-left k l = rw (read-closed s) (went _ _ h k (λ t q. simp (lt-ltb _ _ l)))
+  unfolding read replyOf measured ended
+  m-left k l = went _ _ h k (λ t q. simp (lt-ltb _ _ l))
 
   pub m-words : {to c : ℕ} {b : Bool} → y ≡ Next to b c → length s ≤ to → replyOf (answer.Count (c + imageWords)) ≡ measured (read s)
-  unfolding replyOf measured ended imageLength
-  m-words k l = rw (read-closed s) (went _ _ h k (λ t q. simp (le-ltb _ _ l) (ap success (omega (arith, of-image t)))))
+  unfolding read replyOf measured ended imageLength
+  m-words k l = went _ _ h k (λ t q. simp (le-ltb _ _ l) (ap success (omega (arith, of-image t))))
 
   -- the words of the image do not wrap
   pub m-fits : {to c : ℕ} {b : Bool} → y ≡ Next to b c → Fits w64 (c + imageWords)

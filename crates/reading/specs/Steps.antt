@@ -3,13 +3,10 @@
 use Prim.Native.Nat.{ℕ, _+_, _-_, _*_, _≤_}
 use mathlib.Core.Bool.{Bool, false, cond, _&&_}
 use mathlib.Core.List.{List}
-use lib.Dec.{ltb, eqb}
-use lib.ListN.{length}
 use Rattle.language.specs.Term.{Term, Terms, Arms, size}
 use Rattle.language.specs.Run.{atom, atoms}
 use Rattle.language.specs.Kinds.{atArm, headOf}
-use Rattle.language.specs.Limits.{deepest, mostWords}
-use Rattle.language.specs.Read.{noPlace, Got, found, fault, word, headed, second, term}
+use Rattle.language.specs.Read.{Got, found, fault, word, headed, second}
 use Rattle.sizes.specs.Lengths.{passingLength, passingLengths, armLengths}
 use Rattle.reading.specs.declared.Step.{Step}
 use Rattle.reading.specs.declared.Step.the-variants.{Next, No}
@@ -78,10 +75,6 @@ armsStep g = stepOf (λ _. false) armLengths g
 -- an arm's two words: the second, where the first is an arm's head
 unfoldable pub arity : List ℕ → ℕ → Got ℕ
 arity s at = word s at (λ w. headed (headOf atArm w) at (λ r. second s (at + 1)))
-
--- a rule up to its last word, from a place on: "Lengths first: 1, then 2", then the closed term at full depth
-unfoldable pub closed : List ℕ → ℕ → Got Term
-closed s at = cond (eqb (length s) 0) (fault 1 noPlace) (cond (ltb mostWords (length s)) (fault 2 noPlace) (term s deepest 0 at))
 
 -- a count that was read, or the fault
 unfoldable pub countOf : Got ℕ → Count

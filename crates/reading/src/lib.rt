@@ -7,9 +7,9 @@ ghost use mathlib.Core.Path.{_≡_};
 ghost use Prim.Native.Nat.{_+_, _*_, _≤_, _<_};
 ghost use lib.ListN.{length};
 ghost use Rattle.language.specs.Kinds.{mostByte};
-ghost use Rattle.language.specs.Read.{second, many, armsOf, opened, term, read};
+ghost use Rattle.language.specs.Read.{second, many, armsOf, opened, term, closed, read};
 ghost use Rattle.language.specs.Calls.{replyOf, checked, measured};
-ghost use Rattle.reading.specs.Steps.{aWord, small, termStep, termsStep, armsStep, arity, closed, countOf, wordsOf, grownOf, joinedOf, builtOf, Roomy};
+ghost use Rattle.reading.specs.Steps.{aWord, small, termStep, termsStep, armsStep, arity, countOf, wordsOf, grownOf, joinedOf, builtOf, Roomy};
 ghost use Rattle.reading.specs.Answers.{checkedReply};
 
 // The words of a variable's passing form, and those that each other form has besides its parts' passing forms and chains.

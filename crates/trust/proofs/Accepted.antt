@@ -17,7 +17,7 @@ use Rattle.language.specs.Words.{head, words, wordsᵗ, wordsᵃ}
 use Rattle.language.specs.Scope.{Scoped, Scopedᵗ, Scopedᵃ, s-var, s-fun, s-call, s-bind, s-con, s-cases, s-nil, s-cons, s-none, s-arm}
 use Rattle.language.specs.Limits.{deepest, mostWords, Ranged, Rangedᵗ, Rangedᵃ, r-var, r-fun, r-call, r-bind, r-con, r-cases, r-nil, r-cons, r-none, r-arm, depth, depthᵗ, depthᵃ, Rule}
 use Rattle.language.specs.Places.{Held}
-use Rattle.language.specs.Read.{noPlace, Got, found, fault, then, made, headed, second, many, armsOf, opened, term, accepted, reading, ended, read}
+use Rattle.language.specs.Read.{noPlace, Got, found, fault, then, made, headed, second, many, armsOf, opened, term, accepted, reading, closed, ended, read}
 use Rattle.language.specs.declared.Row.{Row}
 use Rattle.language.specs.declared.Head.{Head}
 use Rattle.language.specs.declared.Head.the-variants.{Refused, Opens}
@@ -240,15 +240,28 @@ term-good s (suc d) n at = holds-test (ltb at (length s)) _ 3 (length s) (λ a. 
 all-words : {s ws : List ℕ} {to : ℕ} → Held s ws 0 to → length s ≤ to → s ≡ ws
 all-words {s} {ws} {to} h e = h .words ∙ ap (λ (l : List ℕ). ws ++ l) (drop-of-length-le s e) ∙ append-nil ws
 
-rule-holds : (s : List ℕ) → length s ≤ mostWords
-    → Holds (λ t to. (s ≡ words rules t) × Rule t) (then (term s deepest 0 0) (ended s))
-unfolding ended
-rule-holds s l = holds-then _ (term-good s deepest 0 0) (λ t to x. go t to x (ltb to (length s)) refl)
+closed-good : (s : List ℕ) → Holds (λ t to. Good s deepest 0 0 t to × (length s ≤ mostWords)) (closed s 0)
+unfolding closed
+closed-good s = go (eqb (length s) 0) (ltb mostWords (length s)) (ltb-false mostWords (length s))
   where
-    go : (t : Term) (to : ℕ) → Good s deepest 0 0 t to → (b : Bool) → ltb to (length s) ≡ b
-        → Holds (λ t to. (s ≡ words rules t) × Rule t) (cond b (fault 8 to) (found t to))
-    go t to x true e = left
-    go t to x false e =
+    short : {g : Got Term} → Holds (Good s deepest 0 0) g → length s ≤ mostWords → Holds (λ t to. Good s deepest 0 0 t to × (length s ≤ mostWords)) g
+    short (held x) l = held (x, l)
+    short left l = left
+
+    go : (b c : Bool) → (c ≡ false → length s ≤ mostWords)
+        → Holds (λ t to. Good s deepest 0 0 t to × (length s ≤ mostWords)) (cond b (fault 1 noPlace) (cond c (fault 2 noPlace) (term s deepest 0 0)))
+    go true c few = left
+    go false true few = left
+    go false false few = short (term-good s deepest 0 0) (few refl)
+
+ended-rule : (s : List ℕ) (t : Term) (to : ℕ) → Good s deepest 0 0 t to → length s ≤ mostWords
+    → Holds (λ t to. (s ≡ words rules t) × Rule t) (ended s t to)
+unfolding ended
+ended-rule s t to x l = go (ltb to (length s)) refl
+  where
+    go : (b : Bool) → ltb to (length s) ≡ b → Holds (λ t to. (s ≡ words rules t) × Rule t) (cond b (fault 8 to) (found t to))
+    go true e = left
+    go false e =
         let q : s ≡ words rules t = all-words (x .held) (ltb-false to (length s) e) in
         held (q, record { closed = x .scoped 0; ranged = x .ranged; shallow = x .shallow; short = rw (← q) l })
 
@@ -258,14 +271,7 @@ reading-accepted left e = let z : _≡_ {A = ℕ} 0 1 = cc in absurd (omega arit
 
 pub accepted-are-rules : AcceptedAreRules
 unfolding read
-accepted-are-rules ws t e = reading-accepted (go (eqb (length ws) 0) (ltb mostWords (length ws)) refl) e
-  where
-    go : (b c : Bool) → ltb mostWords (length ws) ≡ c
-        → Holds (λ t to. (ws ≡ words rules t) × Rule t) (cond b (fault 1 noPlace) (cond c (fault 2 noPlace)
-        (then (term ws deepest 0 0) (ended ws))))
-    go true c q = left
-    go false true q = left
-    go false false q = rule-holds ws (ltb-false mostWords (length ws) q)
+accepted-are-rules ws t e = reading-accepted (holds-then (ended ws) (closed-good ws) (λ u to x. ended-rule ws u to (x .0) (x .1))) e
 
 -- an accepted term is a rule: closed among other things
 pub accepted-rule : (ws : List ℕ) (t : Term) → read ws ≡ accepted t → Rule t

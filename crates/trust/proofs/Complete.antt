@@ -14,7 +14,7 @@ use Rattle.language.specs.Words.{head, words, wordsᵗ, wordsᵃ}
 use Rattle.language.specs.Scope.{Scoped, Scopedᵗ, Scopedᵃ, s-var, s-fun, s-call, s-bind, s-con, s-cases, s-nil, s-cons, s-none, s-arm}
 use Rattle.language.specs.Limits.{deepest, mostWords, Ranged, Rangedᵗ, Rangedᵃ, r-var, r-kvar, r-fun, r-call, r-bind, r-con, r-cases, r-nil, r-cons, r-none, r-arm, depth, depthᵗ, depthᵃ}
 use Rattle.language.specs.Places.{Held}
-use Rattle.language.specs.Read.{Got, found, then, made, second, many, armsOf, opened, term, ended, read}
+use Rattle.language.specs.Read.{Got, found, then, made, second, many, armsOf, opened, term, closed, ended, read}
 use Rattle.language.specs.declared.Parts.the-variants.{Nothing, Body, FunctionAndArguments, BoundAndBody, CountAndArguments, SubjectAndArms}
 use Rattle.language.specs.declared.Row.{Row}
 use Rattle.language.proofs.Heads.{head-opens}
@@ -146,7 +146,7 @@ some-words (con t ps) = omega arith
 some-words (cases m ps) = omega arith
 
 pub rules-are-accepted : RulesAreAccepted
-unfolding read ended then
+unfolding read closed ended then
 rules-are-accepted t r =
     let s : List ℕ = words rules t in
     simp (

@@ -14,7 +14,7 @@ use borrow.Author.Tests.{lt-ltb, le-ltb, ne-eqb, ltb-true, ltb-false}
 use Rattle.language.specs.Term.{Term, var, fun, call, bind, con, cases, nil, cons, none, arm}
 use Rattle.language.specs.Kinds.{mostArguments, atTerm, atArm, rowOf, tested, headOf}
 use Rattle.language.specs.Limits.{deepest, mostWords}
-use Rattle.language.specs.Read.{noPlace, Got, found, fault, then, made, word, headed, second, many, armsOf, opened, term, refused, reading, ended, read}
+use Rattle.language.specs.Read.{noPlace, Got, found, fault, then, made, word, headed, second, many, armsOf, opened, term, refused, reading, closed, ended, read}
 use Rattle.language.specs.declared.Parts.{Parts}
 use Rattle.language.specs.declared.Parts.the-variants.{Nothing, Body, FunctionAndArguments, BoundAndBody, CountAndArguments, SubjectAndArms, ArityAndBody}
 use Rattle.language.specs.declared.Row.{Row}
@@ -224,7 +224,7 @@ whole-same s more {e} {p} h l m =
 
 -- the tests of the lengths before it
 read-whole : (s : List ℕ) → (length s ≡ 0 → ⊥) → length s ≤ mostWords → read s ≡ reading (whole s)
-unfolding read
+unfolding read closed
 read-whole s n l = simp (ne-eqb (length s) 0 n, le-ltb mostWords (length s) l)
 
 reading-refused : (g : Got Term) {e p : ℕ} → reading g ≡ refused e p → g ≡ fault e p
@@ -242,10 +242,10 @@ placed {ws} {e} {p} l h (tests m n i) = of-word l m n i same
         read-whole (take (p + 1) ws ++ more) some few ∙ ap reading (whole-same ws more h m i)
 
 pub places-help : PlacesHelp
-unfolding read
+unfolding read closed then
 places-help ws e p h = go (eqb (length ws) 0) (ltb mostWords (length ws)) (ltb-false mostWords (length ws)) h
   where
-    go : (b c : Bool) → (c ≡ false → length ws ≤ mostWords) → reading (cond b (fault 1 noPlace) (cond c (fault 2 noPlace) (whole ws))) ≡ refused e p
+    go : (b c : Bool) → (c ≡ false → length ws ≤ mostWords) → reading (then (cond b (fault 1 noPlace) (cond c (fault 2 noPlace) (term ws deepest 0 0))) (ended ws)) ≡ refused e p
         → Placed ws e p
     go true c few k = let x : _≡_ {A = ℕ} 1 e = cc in let y : noPlace ≡ p = cc in rw (← y) (of-length {e = e} (omega arith) (omega arith))
     go false true few k = let x : _≡_ {A = ℕ} 2 e = cc in let y : noPlace ≡ p = cc in rw (← y) (of-length {e = e} (omega arith) (omega arith))

@@ -4,7 +4,6 @@ use mathlib.Core.Path.{ap, _∙_}
 use native.Mathlib.Omega.{arith}
 use lib.ListN.{length, length-set}
 use lib.Seq.{length-sets}
-use Rattle.listing.proofs.Ways.{ways}
 use Rattle.listing.proofs.put_start.Statement.{statement}
 use Rattle.listing.proofs.put_start.Tie as tie
 
@@ -21,7 +20,7 @@ same-length : tie.Need-same-length
 same-length c = ap length (c .before .before .put-number .ensures) ∙ simp (length-sets, length-set)
 
 returns : tie.Need-returns
-returns c = search ways
+returns c = search needs
 
 pub put-start-spec : {M : Type 1} → statement M
 put-start-spec = tie.close (tie.spec slice-write-out slice-write-out-2 put-number-requires same-length returns)
