@@ -1,7 +1,7 @@
 -- The ways out of the functions that test a mark and store words, in the words of the code: one law for each.
 -- Assumes nothing.
 use Prim.Native.Nat.{ℕ, suc, _+_, _-_, _*_, _/_, _%_, _<_, _≤_}
-use mathlib.Core.Path.{_≡_, sym, ap₂, subst}
+use mathlib.Core.Path.{_≡_, refl, ap₂, subst}
 use mathlib.Core.Bool.{false}
 use mathlib.Core.List.{List, [], _∷_}
 use native.Mathlib.Omega.{arith}
@@ -10,6 +10,7 @@ use lib.Dec.{eqb}
 use lib.ListN.{length, getD, drop, set, drop-of-length-le}
 use lib.Seq.{sets, drop-cons}
 use borrow.Author.Tests.{lt-ltb, le-ltb, eq-eqb, ne-eqb}
+use Rattle.language.proofs.Stores.{store-rest}
 use Rattle.files.specs.Files.{markL, markR, third, headerBytes, header, bytesOf, wordAt, wordsAt, marked}
 use Rattle.files.specs.declared.Form.{Form}
 
@@ -43,15 +44,11 @@ pub next-word : (o goal bs : List ℕ) (from i n : ℕ) {w : ℕ} → i < n → 
     → sets o i (wordsAt bs (from + 2 * i) (n - i)) ≡ goal → sets (set o i w) (i + 1) (wordsAt bs (from + 2 * (i + 1)) (n - (i + 1))) ≡ goal
 unfolding wordsAt
 next-word o goal bs from i n {w} h e g =
-    let at : ℕ = from + 2 * i in
+    let at : ℕ = from + 2 * (i + 1) in
     let m : ℕ = n - (i + 1) in
     let k : n - i ≡ suc m = omega arith in
-    let first : sets (set o i (wordAt bs at)) (suc i) (wordsAt bs (at + 2) m) ≡ goal = subst (λ (x : ℕ). sets o i (wordsAt bs at x) ≡ goal) k g in
-    let on : sets (set o i (wordAt bs at)) (i + 1) (wordsAt bs (at + 2) m) ≡ goal
-    = subst (λ (x : ℕ). sets (set o i (wordAt bs at)) x (wordsAt bs (at + 2) m) ≡ goal) (sym (add-one i)) first in
-    let to : sets (set o i (wordAt bs at)) (i + 1) (wordsAt bs (from + 2 * (i + 1)) m) ≡ goal
-    = subst (λ (x : ℕ). sets (set o i (wordAt bs at)) (i + 1) (wordsAt bs x m) ≡ goal) (omega arith) on in
-    subst (λ (x : ℕ). sets (set o i x) (i + 1) (wordsAt bs (from + 2 * (i + 1)) m) ≡ goal) (sym e) to
+    let a : at ≡ from + 2 * i + 2 = omega arith in
+    store-rest o goal i (wordsAt bs (from + 2 * i) (n - i)) (w ∷ []) (wordsAt bs at m) refl g (rw (k, a, e)) (omega arith)
 
 pub words-start : (o bs : List ℕ) (from n : ℕ) → sets o 0 (wordsAt bs (from + 2 * 0) (n - 0)) ≡ sets o 0 (wordsAt bs from n)
 words-start o bs from n =
@@ -69,17 +66,9 @@ words-end o goal bs from i n h g =
 pub next-bytes : (o goal ws : List ℕ) (i : ℕ) {o' : List ℕ} → o' ≡ sets o (headerBytes + 2 * i) (bytesOf (getD ws i 0 ∷ []))
     → sets o (headerBytes + 2 * i) (bytesOf (drop i ws)) ≡ goal → i < length ws → sets o' (headerBytes + 2 * (i + 1)) (bytesOf (drop (i + 1) ws)) ≡ goal
 unfolding bytesOf
-next-bytes o goal ws i {o'} e g h =
-    let at : ℕ = headerBytes + 2 * i in
-    let w : ℕ = getD ws i 0 in
-    let two : List ℕ = set (set o at (w % 256)) (suc at) (w / 256) in
-    let first : sets two (suc (suc at)) (bytesOf (drop (suc i) ws)) ≡ goal
-    = subst (λ (x : List ℕ). sets o at (bytesOf x) ≡ goal) (drop-cons ws i 0 h) g in
-    let on : sets two (headerBytes + 2 * (i + 1)) (bytesOf (drop (suc i) ws)) ≡ goal
-    = subst (λ (x : ℕ). sets two x (bytesOf (drop (suc i) ws)) ≡ goal) (omega arith) first in
-    let to : sets two (headerBytes + 2 * (i + 1)) (bytesOf (drop (i + 1) ws)) ≡ goal
-    = subst (λ (x : ℕ). sets two (headerBytes + 2 * (i + 1)) (bytesOf (drop x ws)) ≡ goal) (sym (add-one i)) on in
-    subst (λ (x : List ℕ). sets x (headerBytes + 2 * (i + 1)) (bytesOf (drop (i + 1) ws)) ≡ goal) (sym e) to
+next-bytes o goal ws i e g h =
+    store-rest o goal (headerBytes + 2 * i) (bytesOf (drop i ws)) (bytesOf (getD ws i 0 ∷ [])) (bytesOf (drop (i + 1) ws)) e g
+    (rw (drop-cons ws i 0 h, add-one)) (omega arith)
 
 pub bytes-end : (o goal ws : List ℕ) (i : ℕ) → length ws ≤ i → sets o (headerBytes + 2 * i) (bytesOf (drop i ws)) ≡ goal → o ≡ goal
 unfolding bytesOf

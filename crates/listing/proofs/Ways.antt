@@ -1,7 +1,7 @@
 -- The ways out of the functions that make text, in the words of the code: one law for each.
 -- Assumes nothing.
 use Prim.Native.Nat.{ℕ, zero, suc, _+_, _-_, _*_, _/_, _%_, _<_, _≤_}
-use mathlib.Core.Path.{_≡_, refl, sym, ap, _∙_, subst}
+use mathlib.Core.Path.{_≡_, refl, sym, _∙_, subst}
 use mathlib.Core.List.{List, [], _∷_, _++_}
 use native.Mathlib.Omega.{arith}
 use native.Mathlib.Numerals.{add-one, towards-suc}
@@ -13,7 +13,7 @@ use Rattle.language.specs.Read.{noPlace}
 use Rattle.language.specs.Calls.{Outcome, replyOf, told, filled}
 use Rattle.language.specs.declared.Answer.{Answer}
 use Rattle.language.specs.declared.Answer.the-variants.{Count, Refusal}
-use Rattle.language.proofs.Stores.{sets-append, store-last, filled-short, filled-whole}
+use Rattle.language.proofs.Stores.{store-more, store-last, store-rest, filled-short, filled-whole}
 use Rattle.listing.specs.Text.{space, newline, hexDigit, endOf, wordText, listed, placesOf, numberText, okText, noText, line, replyText}
 
 -- a digit
@@ -42,17 +42,9 @@ word-stored l at w e p q r s = rw (p, q, r, s) (simp towards-suc)
 pub next-word : (o goal ws : List ℕ) (at n i : ℕ) {o' : List ℕ} {e : ℕ} → o' ≡ sets o (at + 5 * i) (wordText (getD ws i 0) e) → e ≡ endOf n i
     → sets o (at + 5 * i) (listed n i (drop i ws)) ≡ goal → i < length ws → sets o' (at + 5 * (i + 1)) (listed n (i + 1) (drop (i + 1) ws)) ≡ goal
 unfolding listed
-next-word o goal ws at n i {o'} k e g h =
-    let w : ℕ = getD ws i 0 in
-    let first : sets o (at + 5 * i) (wordText w (endOf n i) ++ listed n (i + 1) (drop (suc i) ws)) ≡ goal
-    = subst (λ (x : List ℕ). sets o (at + 5 * i) (listed n i x) ≡ goal) (drop-cons ws i 0 h) g in
-    let two : sets (sets o (at + 5 * i) (wordText w (endOf n i))) (at + 5 * i + 5) (listed n (i + 1) (drop (suc i) ws)) ≡ goal
-    = sym (sets-append o (at + 5 * i) (wordText w (endOf n i)) (listed n (i + 1) (drop (suc i) ws))) ∙ first in
-    let z : at + 5 * i + 5 ≡ at + 5 * (i + 1) = omega arith in
-    let three : sets (sets o (at + 5 * i) (wordText w (endOf n i))) (at + 5 * (i + 1)) (listed n (i + 1) (drop (suc i) ws)) ≡ goal
-    = subst (λ (x : ℕ). sets (sets o (at + 5 * i) (wordText w (endOf n i))) x (listed n (i + 1) (drop (suc i) ws)) ≡ goal) z two in
-    rw (k, e)
-    (subst (λ (x : ℕ). sets (sets o (at + 5 * i) (wordText w (endOf n i))) (at + 5 * (i + 1)) (listed n (i + 1) (drop x ws)) ≡ goal) (sym (add-one i)) three)
+next-word o goal ws at n i {e = e} k q g h =
+    store-rest o goal (at + 5 * i) (listed n i (drop i ws)) (wordText (getD ws i 0) e) (listed n (i + 1) (drop (i + 1) ws)) k g
+    (rw (drop-cons ws i 0 h, q, add-one)) (omega arith)
 
 pub words-end : (o goal ws : List ℕ) (at n i : ℕ) → n ≡ length ws → n ≤ i → sets o (at + 5 * i) (listed n i (drop i ws)) ≡ goal → o ≡ goal
 unfolding listed
@@ -103,12 +95,6 @@ number-length : (n : ℕ) → length (numberText n) ≡ placesOf n + 1
 unfolding numberText
 number-length n = omega (arith, digits-length (placesOf n) n)
 
--- a run behind what was stored at the front
-after : (l xs ys : List ℕ) {o o' : List ℕ} {i : ℕ} → o ≡ sets l 0 xs → i ≡ length xs → o' ≡ sets o i ys → o' ≡ sets l 0 (xs ++ ys)
-after l xs ys e k f =
-    let z : 0 + length xs ≡ length xs = omega arith in
-    rw (f, e, k) (sym (sets-append l 0 xs ys ∙ ap (λ (x : ℕ). sets (sets l 0 xs) x ys) z))
-
 listed-length : (n i : ℕ) (ws : List ℕ) → length (listed n i ws) ≡ 5 * length ws
 unfolding listed
 listed-length n i [] = refl
@@ -136,7 +122,7 @@ module _ (e p : ℕ) (out : List ℕ) {k j : ℕ} (x : k ≡ placesOf e) (y : j 
       → told (Count (k + 3 + 1 + j + 1)) (set o' (k + 3 + 1 + j) newline) ≡ filled (line (noText e ++ numberText p)) out
   refusal-whole h f g =
       filled-whole (line (noText e ++ numberText p)) out (omega (arith, ended)) (sym ended)
-      (line-stored out (noText e ++ numberText p) (after out (noText e) (numberText p) f (omega (arith, number-length e)) g) (sym refusal-length))
+      (line-stored out (noText e ++ numberText p) (store-more out 0 (noText e) (numberText p) f (omega (arith, number-length e)) g) (sym refusal-length))
 
 -- the reply with an image's words
 module _ (n : ℕ) (ws out : List ℕ) {k : ℕ} (e : k ≡ placesOf n) where
@@ -158,7 +144,7 @@ module _ (n : ℕ) (ws out : List ℕ) {k : ℕ} (e : k ≡ placesOf n) where
       → told (Count (k + 3 + 1 + 5 * length ws)) o' ≡ filled (line (okText n) ++ listed (length ws) 0 ws) out
   image-whole l h f g =
       filled-whole (line (okText n) ++ listed (length ws) 0 ws) out (omega (arith, text-length)) (sym text-length)
-      (after out (line (okText n)) (listed (length ws) 0 ws) (line-stored out (okText n) f (sym start-length))
+      (store-more out 0 (line (okText n)) (listed (length ws) 0 ws) (line-stored out (okText n) f (sym start-length))
       (omega (arith, line-length (okText n), start-length)) g)
 
 -- the whole answer, by the reply

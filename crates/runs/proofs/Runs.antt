@@ -1,18 +1,18 @@
 -- Words written one run after another, and the room that is left for the next; the ends of chains, in the runs in which they are written.
 -- Assumes nothing.
 use Prim.Native.Nat.{ℕ, zero, suc, _+_, _-_}
-use mathlib.Core.Path.{_≡_, refl, sym, ap, subst, _∙_}
+use mathlib.Core.Path.{_≡_, refl, sym, ap, subst}
 use mathlib.Core.List.{List, [], _∷_, _++_, append-nil}
 use native.Mathlib.Omega.{arith}
 use native.Mathlib.Numerals.{sub-one}
 use borrow.Author.Needs.{needs}
 use lib.ListN.{length, length-append}
-use lib.Seq.{sets, length-sets}
+use lib.Seq.{length-sets}
 use Rattle.language.specs.Term.{images, size}
 use Rattle.language.specs.Words.{head, words, wordsᵗ}
 use Rattle.language.specs.Image.{downto, calling, making}
 use Rattle.language.proofs.Forms.{size-downto}
-use Rattle.language.proofs.Stores.{sets-append}
+use Rattle.language.proofs.Stores.{store-more}
 use Rattle.runs.specs.Runs.{Room, Put}
 
 pub put-none : (o : List ℕ) (p : ℕ) → Put [] o p o p
@@ -20,9 +20,9 @@ put-none o p = record { next = omega arith; holds = refl }
 
 -- one run written after another
 pub put-then : {a b o o′ o″ : List ℕ} {p i end : ℕ} → Put a o p o′ i → Put b o′ i o″ end → Put (a ++ b) o p o″ end
-put-then {a} {b} {o} {o′} {o″} {p} {i} f g = record {
+put-then {a} {b} {o} {p = p} f g = record {
   next = omega (arith, f .next, g .next, length-append a b);
-  holds = g .holds ∙ ap (λ (l : List ℕ). sets l i b) (f .holds) ∙ ap (λ (k : ℕ). sets (sets o p a) k b) (f .next) ∙ sym (sets-append o p a b);
+  holds = store-more o p a b (f .holds) (f .next) (g .holds);
 }
 
 -- the room for the first of two runs, and what is left for the second when as many words as the first has were written
