@@ -1,5 +1,11 @@
 #include "cases.h"
 
+/* "a short and a long form of one call request", and an arm for each */
+#define SHORT 0x0605, 0x0000
+#define LONG 0x0605, 0x0001, 0x0602, 0x0000
+#define SHORT_ARM 0x0805, 0x0000, 0x0601, 0x0000
+#define LONG_ARM 0x0805, 0x0001, 0x0100
+
 const struct accepted_case accepted_cases[ACCEPTED_CASES] = {
     { "case A", WORD_LIST(0x0600, 0x0000), 8, WORD_LIST(0x0600, 0x0000), 2 },
     { "case B", WORD_LIST(0x0401, 0x0201, 0x0100, 0x0600, 0x0000), 27,
@@ -21,6 +27,18 @@ const struct accepted_case accepted_cases[ACCEPTED_CASES] = {
       64, WORD_LIST(0x0600, 0x0000), 20 },
     { "case G", WORD_LIST(0x0601, 0x0001, 0x0600, 0x0000), 10,
       WORD_LIST(0x0601, 0x0001, 0x0600, 0x0000), 2 },
+    { "short request, short arm first",
+      WORD_LIST(0x0702, SHORT, SHORT_ARM, LONG_ARM), 30,
+      WORD_LIST(0x0601, 0x0000), 5 },
+    { "long request, short arm first",
+      WORD_LIST(0x0702, LONG, SHORT_ARM, LONG_ARM), 32,
+      WORD_LIST(0x0602, 0x0000), 5 },
+    { "short request, long arm first",
+      WORD_LIST(0x0702, SHORT, LONG_ARM, SHORT_ARM), 30,
+      WORD_LIST(0x0601, 0x0000), 5 },
+    { "long request, long arm first",
+      WORD_LIST(0x0702, LONG, LONG_ARM, SHORT_ARM), 32,
+      WORD_LIST(0x0602, 0x0000), 5 },
 };
 
 const struct refused_case refused_cases[REFUSED_CASES] = {

@@ -1,4 +1,4 @@
-/* The paper's worked rules, and rules that tell a right place from a near. */
+/* The paper's worked rules, and those of the requests that followed it. */
 #ifndef PEER_CASES_H
 #define PEER_CASES_H
 
@@ -22,7 +22,7 @@ struct refused_case {
     struct refusal refusal;
 };
 
-enum { ACCEPTED_CASES = 7, REFUSED_CASES = 6, PLACE_CASES = 24 };
+enum { ACCEPTED_CASES = 11, REFUSED_CASES = 6, PLACE_CASES = 24 };
 
 /* Case O: words 0201 before 0600 0000. */
 enum { O_REFUSED_FUNCTIONS = 64, O_ACCEPTED_FUNCTIONS = 63 };
@@ -30,8 +30,10 @@ enum { O_REFUSED_FUNCTIONS = 64, O_ACCEPTED_FUNCTIONS = 63 };
 /* Case N: the outputs lent for case A. */
 enum { N_SHORT_OUTPUT = 7, N_LONG_ENOUGH_OUTPUT = 8 };
 
-extern const struct accepted_case accepted_cases[ACCEPTED_CASES]; /* A to G */
-extern const struct refused_case refused_cases[REFUSED_CASES];    /* H to M */
+/* A to G, then matches on two forms of one tag. */
+extern const struct accepted_case accepted_cases[ACCEPTED_CASES];
+/* H to M. */
+extern const struct refused_case refused_cases[REFUSED_CASES];
 /* Rules refused at one of their parts, where another place lies near. */
 extern const struct refused_case place_cases[PLACE_CASES];
 

@@ -2,7 +2,12 @@
 
 #include "gen_record.h"
 
-enum { EXTRA_ARMS_MOST = 2 };
+enum { OTHER_ARMS_MOST = 2 };
+
+struct arm {
+    size_t tag;
+    size_t arity;
+};
 
 /* One in so many is the rarer choice. */
 enum { FITTING_RECURSIVE_ODDS = 4, DATA_ODDS = 2, NEW_TAG_ODDS = 2 };
@@ -93,22 +98,34 @@ static void put_fitting_let(struct maker *maker, size_t type, struct spot spot)
     maker->bound--;
 }
 
-/* An arm for every tag, then perhaps arms that are never taken. */
+/* An arm that is never taken: of a new tag, or of another arity. */
+static struct arm other_arm(struct maker *maker, size_t new_tag)
+{
+    bool is_new = one_in(maker, NEW_TAG_ODDS);
+    size_t tag = is_new ? new_tag : below(maker, FITTING_TAGS);
+    size_t arity = below(maker, SECOND_WORD_MOST);
+
+    return (struct arm){ tag, arity < tag ? arity : arity + 1 };
+}
+
+/* An arm for every tag; perhaps arms before and behind these. */
 static void put_fitting_match(struct maker *maker, size_t type,
                               struct spot spot)
 {
-    size_t arms = FITTING_TAGS + below(maker, EXTRA_ARMS_MOST + 1);
+    size_t others = below(maker, OTHER_ARMS_MOST + 1);
+    size_t first = below(maker, others + 1);
+    size_t arms = FITTING_TAGS + others;
     size_t outside = maker->bound;
 
     put_kind(maker->sink, KIND_MATCH, arms);
     put_fitting(maker, DATA, part_of(spot, arms + 1));
-    for (size_t tag = 0; tag < arms; tag++) {
-        bool taken = tag < FITTING_TAGS;
-        size_t arity = taken ? tag : below(maker, SECOND_WORD_MOST + 1);
-        bool own_tag = taken || one_in(maker, NEW_TAG_ODDS);
+    for (size_t i = 0; i < arms; i++) {
+        bool taken = i >= first && i < first + FITTING_TAGS;
+        struct arm arm = taken ? (struct arm){ i - first, i - first }
+                               : other_arm(maker, FITTING_TAGS + i);
 
-        put_two(maker->sink, KIND_ARM, own_tag ? tag : 0, arity);
-        bind_variables(maker, DATA, arity);
+        put_two(maker->sink, KIND_ARM, arm.tag, arm.arity);
+        bind_variables(maker, DATA, arm.arity);
         put_fitting(maker, type, part_of(spot, arms + 1));
         maker->bound = outside;
     }

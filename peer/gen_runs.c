@@ -53,11 +53,12 @@ static const struct word_list with_value[] = {
               0x0201, 0x0100, NOUGHT),
     WORD_LIST(0x0500, NOUGHT, 0x0602, 0x0002, 0x0603, 0x0001, 0x0100, 0x0500,
               0x0100, 0x0101),
-    /* "The first arm with its tag is taken." */
+    /* "the first arm that has both the tag and the arity" */
     WORD_LIST(0x0702, NOUGHT, 0x0800, 0x0000, 0x0601, 0x0000, 0x0800, 0x0000,
               0x0602, 0x0000),
     WORD_LIST(0x0702, NOUGHT, 0x0800, 0x0000, 0x0601, 0x0000, 0x0800, 0x0003,
               0x0102),
+    WORD_LIST(0x0702, NOUGHT, 0x0800, 0x0001, 0x0100, 0x0800, 0x0000, NOUGHT),
     /* Matches and lets inside each other. */
     WORD_LIST(0x0701, 0x0701, JOIN, TWO, THREE, 0x0802, 0x0002, JOIN, 0x0100,
               0x0101, 0x0802, 0x0002, 0x0101),
@@ -78,7 +79,9 @@ static const struct word_list without_value[] = {
     WORD_LIST(0x0701, 0x0201, 0x0100, 0x0800, 0x0000, NOUGHT),
     WORD_LIST(0x0701, 0x0601, 0x0000, 0x0800, 0x0000, NOUGHT),
     WORD_LIST(0x0701, ONE_MORE, NOUGHT, 0x0801, 0x0000, NOUGHT),
-    WORD_LIST(0x0702, NOUGHT, 0x0800, 0x0001, 0x0100, 0x0800, 0x0000, NOUGHT),
+    /* The tag in one arm, the arity in another. */
+    WORD_LIST(0x0702, ONE_MORE, NOUGHT, 0x0801, 0x0000, NOUGHT, 0x0800, 0x0001,
+              0x0100),
     /* Inside a let, a constructor, an argument, an arm. */
     WORD_LIST(0x0500, 0x0401, NOUGHT, NOUGHT, NOUGHT),
     WORD_LIST(0x0602, 0x0002, NOUGHT, 0x0401, NOUGHT, NOUGHT),
@@ -127,6 +130,28 @@ static void write_square(FILE *out, size_t number)
     end_record(&record, out);
 }
 
+/* A match of one tag, with an arm for each arity in falling order. */
+static void write_forms(FILE *out, size_t arguments)
+{
+    struct record record;
+
+    start_record(&record);
+    put_kind(&record.sink, KIND_MATCH, SECOND_WORD_MOST + 1);
+    put_two(&record.sink, KIND_CONSTRUCTOR, 0, arguments);
+    for (size_t i = 0; i < arguments; i++)
+        put_two(&record.sink, KIND_CONSTRUCTOR, i, 0);
+    for (size_t i = 0; i <= SECOND_WORD_MOST; i++) {
+        size_t arity = SECOND_WORD_MOST - i;
+
+        put_two(&record.sink, KIND_ARM, 0, arity);
+        if (arity > 0)
+            put_kind(&record.sink, KIND_VARIABLE, arity / 2);
+        else
+            put_leaf(&record.sink);
+    }
+    end_record(&record, out);
+}
+
 static void write_all(FILE *out, const struct word_list *rules, size_t count)
 {
     for (size_t i = 0; i < count; i++)
@@ -143,6 +168,8 @@ void write_runs(FILE *out)
     write_all(out, without_value,
               sizeof without_value / sizeof without_value[0]);
     write_all(out, without_end, sizeof without_end / sizeof without_end[0]);
+    for (size_t arguments = 0; arguments <= SECOND_WORD_MOST; arguments++)
+        write_forms(out, arguments);
     write_doubling(out, lets);
     write_doubling(out, far_too_many_lets);
     write_square(out, number);

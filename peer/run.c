@@ -126,19 +126,21 @@ static bool enter_call(struct run *run, struct task *task)
     return true;
 }
 
-/* "The first arm with its tag is taken." */
-static const struct term *first_arm(const struct term *match, uint8_t tag)
+/* "the first arm that has both the tag and the arity" */
+static const struct term *first_arm(const struct term *match,
+                                    const struct term *constructor)
 {
-    for (size_t i = 1; i < match->part_count; i++)
-        if (match->parts[i]->low == tag)
-            return match->parts[i];
+    for (size_t i = 1; i < match->part_count; i++) {
+        const struct term *arm = match->parts[i];
+
+        if (arm->low == constructor->low &&
+            arm->second == constructor->second)
+            return arm;
+    }
     return NULL;
 }
 
-/*
- * "If that arm's arity is not the value's argument count, or no arm has the
- * tag, there is no value."
- */
+/* "Match: the subject comes to a constructor value." */
 static bool enter_match(struct run *run, struct task *task)
 {
     const struct value *subject =
@@ -146,8 +148,8 @@ static bool enter_match(struct run *run, struct task *task)
 
     if (subject == NULL || subject->term->kind != KIND_CONSTRUCTOR)
         return false;
-    const struct term *arm = first_arm(task->term, subject->term->low);
-    if (arm == NULL || arm->second != subject->term->second)
+    const struct term *arm = first_arm(task->term, subject->term);
+    if (arm == NULL)
         return false;
     run->counts.matches++;
     for (size_t i = 0; i < arm->second; i++)

@@ -6,10 +6,10 @@ use mathlib.Core.Bool.{Bool, true, false}
 use mathlib.Core.Path.{_≡_, refl}
 use mathlib.Core.Option.{Option, some, none as nothing}
 use lib.Dec.{eqb}
-use borrow.Author.Tests.{eqb-true, eqb-false}
-use Rattle.language.specs.Term.{Lang, rules, images, Term, Terms, Arms, var, kvar, fun, call, bind, con, cases, nil, cons, none, arm, size}
+use borrow.Author.Tests.{eqb-true}
+use Rattle.language.specs.Term.{Lang, rules, images, Term, Terms, Arms, var, kvar, fun, call, bind, con, cases, nil, cons, size}
 use Rattle.language.specs.Sub.{sub}
-use Rattle.language.specs.Run.{atoms, Value, Values, v-fun, v-con, v-nil, v-cons, Enters, all, first, rev, itself, Took, here, there, Run, Runs, taken, built, bound, called, matched, done, then}
+use Rattle.language.specs.Run.{atoms, Value, Values, v-fun, v-con, v-nil, v-cons, Enters, all, first, rev, itself, took, Run, Runs, taken, built, bound, called, matched, done, then}
 
 -- a run of a term, with its value
 pub record Ran (L : Lang) (t : Term) : Type 0 where
@@ -44,23 +44,6 @@ enters? : (L : Lang) (vs : Terms) → Option (Entry L vs)
 enters? rules vs = some record { ks = nil; xs = vs; enters = all }
 enters? images nil = nothing
 enters? images (cons v vs) = some record { ks = cons v nil; xs = vs; enters = first }
-
-pub record Choice (t n : ℕ) (ps : Arms) : Type 0 where
-  pub body : Term
-  pub took : Took t n ps body
-
-took? : (t n : ℕ) (ps : Arms) → Option (Choice t n ps)
-took? t n none = nothing
-took? t n (arm t' n' b ps) = tag (eqb t t') refl (took? t n ps)
-  where
-    arity : t ≡ t' → (c : Bool) → eqb n n' ≡ c → Option (Choice t n (arm t' n' b ps))
-    arity e true f = some record { body = b; took = here e (eqb-true n n' f) }
-    arity e false f = nothing
-
-    tag : (c : Bool) → eqb t t' ≡ c → Option (Choice t n ps) → Option (Choice t n (arm t' n' b ps))
-    tag true e o = arity (eqb-true t t' e) (eqb n n') refl
-    tag false e nothing = nothing
-    tag false e (some k) = some record { body = k .body; took = there (eqb-false t t' e) (k .took) }
 
 -- one rule at a time, where go finds the runs of parts and bodies
 module _ (L : Lang) (go : (t : Term) → Option (Ran L t)) where
@@ -97,18 +80,19 @@ module _ (L : Lang) (go : (t : Term) → Option (Ran L t)) where
   call? f ps vs (con t qs) r rs = nothing
   call? f ps vs (cases m qs) r rs = nothing
 
+  arm? : (m : Term) (ps : Arms) (t : ℕ) (vs : Terms) → Run L m (con t vs) → (o : Option Term) → took t (size vs) ps ≡ o → Option (Ran L (cases m ps))
+  arm? m ps t vs r nothing e = nothing
+  arm? m ps t vs r (some b) e = elim (go (sub 0 0 nil (rev vs nil) b))
+      [ nothing ↦ nothing | some s ↦ some record { value = s .value; run = matched r e (s .run) } ]
+
   match? : (m : Term) (ps : Arms) (v : Term) → Run L m v → Option (Ran L (cases m ps))
-  unfolding took?
+  unfolding arm?
   match? m ps (var i) r = nothing
   match? m ps (kvar i) r = nothing
   match? m ps (fun o a b) r = nothing
   match? m ps (call g qs) r = nothing
   match? m ps (bind n b) r = nothing
-  match? m ps (con t vs) r = elim (took? t (size vs) ps) [
-    | nothing ↦ nothing
-    | some k ↦ elim (go (sub 0 0 nil (rev vs nil) (k .body)))
-        [ nothing ↦ nothing | some s ↦ some record { value = s .value; run = matched r (k .took) (s .run) } ]
-  ]
+  match? m ps (con t vs) r = arm? m ps t vs r (took t (size vs) ps) refl
   match? m ps (cases n qs) r = nothing
 
   round : (t : Term) → Option (Ran L t)

@@ -1,7 +1,7 @@
 -- The worked rules A to N of document 01, "Worked rules", in one table, and what is claimed of each of them; refusals with their places (document 02,
--- Wish 1). (Case O and larger rules are run by a program.)
+-- Wish 1); matches on a short and a long form of one tag (Wish 3). (Case O and larger rules are run by a program.)
 use Prim.Native.Nat.{ℕ}
-use mathlib.Core.List.{List, [], _∷_}
+use mathlib.Core.List.{List, [], _∷_, _++_}
 use mathlib.Core.Option.{Option, some, none}
 use mathlib.Core.Path.{_≡_}
 use lib.ListN.{replicate}
@@ -79,6 +79,24 @@ caseF =
 abbrev pub caseG : List ℕ
 caseG = 0x0601 ∷ 0x0001 ∷ 0x0600 ∷ 0x0000 ∷ []
 
+-- Wish 3: "a short and a long form of one call request", here with the tag 5: without an argument, and with one
+abbrev pub short : List ℕ
+short = 0x0605 ∷ 0x0000 ∷ []
+
+abbrev pub long : List ℕ
+long = 0x0605 ∷ 0x0001 ∷ 0x0602 ∷ 0x0000 ∷ []
+
+-- the arms of the two forms: the one comes to a constructor with the tag 1, the other to the request's argument
+abbrev pub shortArm : List ℕ
+shortArm = 0x0805 ∷ 0x0000 ∷ 0x0601 ∷ 0x0000 ∷ []
+
+abbrev pub longArm : List ℕ
+longArm = 0x0805 ∷ 0x0001 ∷ 0x0100 ∷ []
+
+-- a match of a request with two arms
+abbrev pub asks : List ℕ → List ℕ → List ℕ → List ℕ
+asks r a b = 0x0702 ∷ r ++ a ++ b
+
 abbrev pub imageB : List ℕ
 imageB =
     0x0401 ∷ 0x0201 ∷ 0x0401 ∷ 0x0201 ∷ 0x0401 ∷ 0x0900 ∷ 0x0202 ∷ 0x0401
@@ -86,8 +104,8 @@ imageB =
     ∷ 0x0401 ∷ 0x0900 ∷ 0x0600 ∷ 0x0000 ∷ 0x0201 ∷ 0x0402 ∷ 0x0901 ∷ 0x0902
     ∷ 0x0900 ∷ 0x0201 ∷ 0x0900 ∷ []
 
--- A to G, B's image, H to M, and N at 7 and at 8 words; then faults in the midst of a rule: a constructor's second word and one that is missing, a
--- later argument, an arm's head and its second word
+-- A to G, the two requests with their arms in both orders, B's image, H to M, and N at 7 and at 8 words; then faults in the midst of a rule: a
+-- constructor's second word and one that is missing, a later argument, an arm's head and its second word
 abbrev pub worked : List Case
 worked =
     runs caseA 8 (0x0600 ∷ 0x0000 ∷ []) 2
@@ -97,6 +115,10 @@ worked =
     ∷ runs caseE 35 (0x0603 ∷ 0x0001 ∷ 0x0600 ∷ 0x0000 ∷ []) 10
     ∷ runs caseF 64 (0x0600 ∷ 0x0000 ∷ []) 20
     ∷ runs caseG 10 caseG 2
+    ∷ runs (asks short shortArm longArm) 30 (0x0601 ∷ 0x0000 ∷ []) 5
+    ∷ runs (asks long shortArm longArm) 32 (0x0602 ∷ 0x0000 ∷ []) 5
+    ∷ runs (asks short longArm shortArm) 30 (0x0601 ∷ 0x0000 ∷ []) 5
+    ∷ runs (asks long longArm shortArm) 32 (0x0602 ∷ 0x0000 ∷ []) 5
     ∷ prints caseB imageB
     ∷ replies [] 100 (refusal 1 noPlace)
     ∷ replies (0x0100 ∷ []) 100 (refusal 7 0)

@@ -1,9 +1,11 @@
 -- How a rule and an image run: document 01, "How a rule runs". One relation serves both languages: "Images run by the same rules with
 -- two numberings; a call there is one application."
 use Prim.Native.Nat.{ℕ, zero, suc, _+_}
-use mathlib.Core.Bool.{Bool, true, false, _&&_}
+use mathlib.Core.Bool.{Bool, true, false, _&&_, cond}
+use mathlib.Core.Option.{Option, some, none as nothing}
 use mathlib.Core.Path.{_≡_}
-use Rattle.language.specs.Term.{Lang, rules, images, Term, Terms, Arms, var, kvar, fun, call, bind, con, cases, nil, cons, arm, size}
+use lib.Dec.{eqb}
+use Rattle.language.specs.Term.{Lang, rules, images, Term, Terms, Arms, var, kvar, fun, call, bind, con, cases, nil, cons, none, arm, size}
 use Rattle.language.specs.Sub.{sub}
 
 -- "An atom is a variable, a function, a recursive function, or a constructor whose arguments are all atoms."
@@ -47,11 +49,11 @@ unfoldable pub itself : ℕ → Term → Terms
 itself zero f = nil
 itself (suc o) f = cons f (itself o f)
 
--- `Took t n ps b`: of the arms ps, a constructor value with the tag t and n arguments takes the one with the body b. "The first arm with
--- its tag is taken. If that arm's arity is not the value's argument count, or no arm has the tag, there is no value."
-pub data Took (t n : ℕ) : Arms → Term → Type 0 where
-  here : {t' n' : ℕ} {b : Term} {ps : Arms} → t ≡ t' → n ≡ n' → Took t n (arm t' n' b ps) b
-  there : {t' n' : ℕ} {b c : Term} {ps : Arms} → ¬ (t ≡ t') → Took t n ps c → Took t n (arm t' n' b ps) c
+-- the body of the arm that a constructor value with the tag t and n arguments takes. Document 02, Wish 3: "the first arm that has both the tag
+-- and the arity", "for rules and images alike"; where no arm has both, there is no value
+unfoldable pub took : ℕ → ℕ → Arms → Option Term
+took t n none = nothing
+took t n (arm t' n' b ps) = cond (eqb t t' && eqb n n') (some b) (took t n ps)
 
 -- `Run L t v`: by the rules of L the closed term t comes to the value v.
 -- taken: "A value comes to itself." built: "A constructor that is not an atom: each argument comes to a value; the result is the
@@ -65,7 +67,7 @@ mutual
     bound : {m b v w : Term} → Run L m v → Run L (sub 0 0 nil (cons v nil) b) w → Run L (bind m b) w
     called : {o a : ℕ} {f b w : Term} {ps vs ks xs : Terms} → Run L f (fun o a b) → Runs L ps vs → Enters L vs ks xs → size xs ≡ a
         → Run L (sub 0 0 ks (rev xs (itself o (fun o a b))) b) w → Run L (call f ps) w
-    matched : {m b w : Term} {t : ℕ} {vs : Terms} {ps : Arms} → Run L m (con t vs) → Took t (size vs) ps b
+    matched : {m b w : Term} {t : ℕ} {vs : Terms} {ps : Arms} → Run L m (con t vs) → took t (size vs) ps ≡ some b
         → Run L (sub 0 0 nil (rev vs nil) b) w → Run L (cases m ps) w
 
   -- "Parts come to values in the order of their words"

@@ -2,10 +2,11 @@
 -- is decided by what came before. By induction on the first run. Assumes nothing.
 use Prim.Native.Nat.{ℕ}
 use mathlib.Core.Bool.{false, false≢true}
+use mathlib.Core.Option.{some}
 use mathlib.Core.Path.{_≡_, refl, ap, ap₂, sym, _∙_, subst}
-use Rattle.language.specs.Term.{Lang, Term, Terms, Arms, fun, con, nil, cons}
+use Rattle.language.specs.Term.{Lang, Term, Terms, Arms, fun, con, nil, cons, size}
 use Rattle.language.specs.Sub.{sub}
-use Rattle.language.specs.Run.{atoms, Values, v-fun, v-con, Enters, all, first, rev, itself, Took, here, there}
+use Rattle.language.specs.Run.{atoms, Values, v-fun, v-con, Enters, all, first, rev, itself, took}
 use Rattle.language.specs.Run.{Run, Runs, taken, built, bound, called, matched, done, then, uses, _⊕_, count, counts}
 use Rattle.meaning.proofs.Forms.{values-atoms}
 
@@ -17,20 +18,14 @@ pub enters-same : {L : Lang} {vs vs' ks ks' xs xs' : Terms} → Enters L vs ks x
 enters-same all all e = (refl, e)
 enters-same first first e = (cc, cc)
 
-pub took-same : {t t' n n' : ℕ} {ps : Arms} {b b' : Term} → Took t n ps b → Took t' n' ps b' → t ≡ t' → b ≡ b'
-took-same (here p q) (here p' q') e = refl
-took-same (here p q) (there x k) e = absurd (x (sym e ∙ p))
-took-same (there x k) (here p q) e = absurd (x (e ∙ p))
-took-same (there x k) (there x' k') e = took-same k k' e
-
 -- the bodies that two calls, or two matches, go on with
 call-same : {L : Lang} {vs vs' ks ks' xs xs' : Terms} {b b' : Term} {o o' a a' : ℕ} → Enters L vs ks xs → Enters L vs' ks' xs'
     → fun o a b ≡ fun o' a' b' → vs ≡ vs' → sub 0 0 ks (rev xs (itself o (fun o a b))) b ≡ sub 0 0 ks' (rev xs' (itself o' (fun o' a' b'))) b'
 call-same {b} {b'} {o} {o'} e e' p q = let (r, r') = enters-same e e' q in let y : o ≡ o' = cc in let z : b ≡ b' = cc in cc
 
-match-same : {vs vs' : Terms} {b b' : Term} {t t' n n' : ℕ} {ps : Arms} → Took t n ps b → Took t' n' ps b' → con t vs ≡ con t' vs'
-    → sub 0 0 nil (rev vs nil) b ≡ sub 0 0 nil (rev vs' nil) b'
-match-same {vs} {vs'} k k' p = let y = took-same k k' (cc) in let z : vs ≡ vs' = cc in cc
+match-same : {vs vs' : Terms} {b b' : Term} {t t' : ℕ} (ps : Arms) → took t (size vs) ps ≡ some b → took t' (size vs') ps ≡ some b'
+    → con t vs ≡ con t' vs' → sub 0 0 nil (rev vs nil) b ≡ sub 0 0 nil (rev vs' nil) b'
+match-same {vs} {vs'} {t} {t'} ps k k' p = let x : t ≡ t' = cc in let y : vs ≡ vs' = cc in cc
 
 -- the value and the counts of the run s are those of the run r, which may be of another term
 abbrev Same : {L : Lang} {t t' v v' : Term} → Run L t v → Run L t' v' → Type 0
@@ -58,9 +53,9 @@ mutual
       let (p', q') = same-runs r r' in
       let (p″, q″) = along s (call-same e e' p p') (λ x. same-run s x) s' in
       (p″, λ i. uses 0 1 0 0 0 ⊕ q i ⊕ q' i ⊕ q″ i)
-  same-run (matched r k s) (matched r' k' s') =
+  same-run (matched {ps} r k s) (matched r' k' s') =
       let (p, q) = same-run r r' in
-      let (p', q') = along s (match-same k k' p) (λ x. same-run s x) s' in
+      let (p', q') = along s (match-same ps k k' p) (λ x. same-run s x) s' in
       (p', λ i. uses 0 0 0 1 0 ⊕ q i ⊕ q' i)
 
   pub same-runs : {L : Lang} {ts vs vs' : Terms} (r : Runs L ts vs) (r' : Runs L ts vs') → (vs ≡ vs') × (counts r ≡ counts r')

@@ -4,11 +4,12 @@
 use Prim.Native.Nat.{ℕ, suc, _+_, _≤_}
 use mathlib.Core.Bool.{false}
 use mathlib.Core.Path.{_≡_, refl}
+use mathlib.Core.Option.{some}
 use native.Mathlib.Omega.{arith}
 use Rattle.language.specs.Term.{rules, images, Term, Terms, Arms, kvar, fun, call, bind, con, cases, nil, cons, size}
 use Rattle.language.specs.Scope.{Scoped, Scopedᵗ, Scopedᵃ, s-fun, s-call, s-bind, s-con, s-cases, s-nil, s-cons}
 use Rattle.language.specs.Sub.{sub}
-use Rattle.language.specs.Run.{atoms, Value, Values, v-fun, all, rev, itself, Took, Counts, uses, _⊕_, count, counts}
+use Rattle.language.specs.Run.{atoms, Value, Values, v-fun, all, rev, itself, took, Counts, uses, _⊕_, count, counts}
 use Rattle.language.specs.Run.{Run, Runs, taken, built, bound, called, matched, done, then}
 use Rattle.language.specs.Image.{lam, to, calling, making, passing, carried, carrieds, chain, passingᵃ, image}
 use Rattle.language.proofs.Forms.{passing-build}
@@ -104,14 +105,14 @@ sim-called {f} {ps} {vs} hf hs hb vv q q' s ss s' = record {
 }
 
 sim-matched : {m b w : Term} {t : ℕ} {vs : Terms} {ps : Arms} {c d : Counts} → Scoped rules 0 0 m → Scopedᵃ rules 0 0 ps → Scoped rules 0 0 (con t vs)
-    → Values vs → Took t (size vs) ps b → Simulated m (con t vs) c → Simulated (sub 0 0 nil (rev vs nil) b) w d
+    → Values vs → took t (size vs) ps ≡ some b → Simulated m (con t vs) c → Simulated (sub 0 0 nil (rev vs nil) b) w d
     → Simulated (cases m ps) w (uses 0 0 0 1 0 ⊕ c ⊕ d)
 unfolding passing rev carrieds size
-sim-matched {m} {vs} {ps} hm hs hv vv y s s' = record {
+sim-matched {m} {t} {vs} {ps} hm hs hv vv y s s' = record {
   given = λ p w n l k hp r.
       adjust (through (cases m ps) (matching (passingᵃ ps)) refl (sim-then hm s-nil hv s sim-done)
       (matching-scoped 0 0 (passingᵃ-scoped hs 0 0 (omega arith))) (omega arith) hp
-      (end-matched vs ps y vv hs (s-fun hp) (s' .given p w n l k hp r))) (omega arith);
+      (end-matched t vs ps y vv hs (s-fun hp) (s' .given p w n l k hp r))) (omega arith);
 }
 
 mutual
@@ -128,7 +129,7 @@ mutual
       sim-called hf hs hb (runs-values r) (runs-size r) n (simulated f hf) (simulatedᵗ r hs) (simulated s (call-scoped hb (runs-scoped r hs) all n))
   simulated (matched r k s) (s-cases hm hs) =
       let hv = run-scoped r hm in
-      sim-matched hm hs hv (in-values (run-value r)) k (simulated r hm) (simulated s (arm-scoped k hs (in-con hv)))
+      sim-matched hm hs hv (in-values (run-value r)) k (simulated r hm) (simulated s (arm-scoped k hs hv))
 
   pub simulatedᵗ : {ts vs : Terms} (r : Runs rules ts vs) → Scopedᵗ rules 0 0 ts → Simulatedᵗ ts vs (counts r)
   simulatedᵗ done s-nil = sim-done

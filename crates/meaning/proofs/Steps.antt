@@ -1,12 +1,15 @@
 -- The steps that an image makes: a passing form is given its continuation, and a chain's ending runs once the chain's terms have come to
 -- values. Each step says how many calls, lets and matches it adds. Assumes nothing.
 use Prim.Native.Nat.{ℕ, suc, _+_, _≤_}
+use mathlib.Core.Bool.{Bool, true, false, _&&_, cond}
+use mathlib.Core.Option.{some, Option·map}
 use mathlib.Core.Path.{_≡_, refl, ap, ap₂}
+use lib.Dec.{eqb}
 use native.Mathlib.Omega.{arith}
 use Rattle.language.specs.Term.{Lang, rules, images, Term, Terms, Arms, kvar, fun, call, con, nil, cons, size}
-use Rattle.language.specs.Scope.{Scoped, Scopedᵃ, s-arm}
+use Rattle.language.specs.Scope.{Scoped, Scopedᵃ, s-none, s-arm}
 use Rattle.language.specs.Sub.{look, sub, subᵗ, subᵃ}
-use Rattle.language.specs.Run.{Value, Values, v-fun, v-con, v-nil, v-cons, first, rev, itself, Took, here, there}
+use Rattle.language.specs.Run.{Value, Values, v-fun, v-con, v-nil, v-cons, first, rev, itself, took}
 use Rattle.language.specs.Run.{Run, Runs, taken, bound, called, matched, done, then, Counts, count, counts}
 use Rattle.language.specs.Image.{lam, to, downto, calling, making, passing, carried, carrieds, passingᵃ}
 use Rattle.language.proofs.Forms.{size-carrieds, passing-atom}
@@ -119,21 +122,28 @@ end-bound {v} {b} {k} {w} {n} {l} {m} x hb hk r =
     rw (stay hb (cons (carried v) (cons k nil)) nil 0 1 (omega arith))
     (comes (bound (taken (carried-value x)) (inside .run)) (omega arith))
 
--- the image takes the arm that the rule takes
-pub took-image : (v k : Term) {t n : ℕ} {ps : Arms} {b : Term} → Took t n ps b → Scopedᵃ rules 0 0 ps
-    → Took t n (subᵃ 0 0 (cons v (cons k nil)) nil (passingᵃ ps)) (to (passing b) k)
-unfolding sub passingᵃ
-took-image v k (here {n'} e f) (s-arm b ps) = rw (stay b (cons v (cons k nil)) nil 0 (0 + n') (omega arith)) (here e f)
-took-image v k (there e y) (s-arm b ps) = there e (took-image v k y ps)
+-- the image takes the arm that the rule takes, and none where the rule takes none
+pub took-image : (v k : Term) (t n : ℕ) {ps : Arms} → Scopedᵃ rules 0 0 ps
+    → took t n (subᵃ 0 0 (cons v (cons k nil)) nil (passingᵃ ps)) ≡ Option·map (λ b. to (passing b) k) (took t n ps)
+unfolding sub passingᵃ took
+took-image v k t n s-none = refl
+took-image v k t n (s-arm {t = t'} {n = n'} {b} {ps} hb hs) =
+    rw (stay hb (cons v (cons k nil)) nil 0 (0 + n') (omega arith), took-image v k t n hs) (either (eqb t t' && eqb n n'))
+  where
+    either : (e : Bool) → cond e (some (to (passing b) k)) (Option·map (λ c. to (passing c) k) (took t n ps))
+        ≡ Option·map (λ c. to (passing c) k) (cond e (some b) (took t n ps))
+    either true = refl
+    either false = refl
 
 -- the ending of a match: the constructor's arguments go in for the variables of the arm's passing form
-pub end-matched : {t : ℕ} {b k w : Term} (vs : Terms) (ps : Arms) {n l m : ℕ} → Took t (size vs) ps b → Values vs → Scopedᵃ rules 0 0 ps
+pub end-matched : (t : ℕ) {b k w : Term} (vs : Terms) (ps : Arms) {n l m : ℕ} → took t (size vs) ps ≡ some b → Values vs → Scopedᵃ rules 0 0 ps
     → Scoped images 0 0 k → Comes (to (passing (sub 0 0 nil (rev vs nil) b)) k) w n l m
     → Comes (sub 0 0 (cons (carried (con t vs)) (cons k nil)) nil (matching (passingᵃ ps))) w n l (suc m)
 unfolding sub carried count
-end-matched {t} {b} {k} {w} vs ps {n} {l} {m} y vv hs hk r =
+end-matched t {b} {k} {w} vs ps {n} {l} {m} y vv hs hk r =
     let inside : Comes (sub 0 0 nil (rev (carrieds vs) nil) (to (passing b) k)) w n l m
-    = rw (put-in nil vv v-nil (in-arms y hs), shut hk nil (rev (carrieds vs) nil) 0 0) r in
-    let took : Took t (size (carrieds vs)) (subᵃ 0 0 (cons (con t (carrieds vs)) (cons k nil)) nil (passingᵃ ps)) (to (passing b) k)
-    = rw (size-carrieds vs) (took-image (con t (carrieds vs)) k y hs) in
-    comes (matched (taken (v-con (carrieds-values vv))) took (inside .run)) (omega arith)
+    = rw (put-in nil vv v-nil (in-arms t (size vs) y hs), shut hk nil (rev (carrieds vs) nil) 0 0) r in
+    let arms = subᵃ 0 0 (cons (con t (carrieds vs)) (cons k nil)) nil (passingᵃ ps) in
+    let arm : took t (size (carrieds vs)) arms ≡ some (to (passing b) k)
+    = rw (size-carrieds vs, took-image (con t (carrieds vs)) k t (size vs) hs, y) refl in
+    comes (matched (taken (v-con (carrieds-values vv))) arm (inside .run)) (omega arith)

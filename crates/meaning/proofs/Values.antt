@@ -1,11 +1,15 @@
 -- What a run comes to, in either language: a value, and a closed one where the term is closed. By induction on the run. Assumes nothing.
 use Prim.Native.Nat.{ℕ, zero, suc, _+_, _≤_}
 use mathlib.Core.Path.{_≡_, refl, ap}
+use mathlib.Core.Bool.{Bool, true, false, _&&_, cond, and-eq-true-iff}
+use mathlib.Core.Option.{some, Option·some-injective, Option·none-ne-some}
+use lib.Dec.{eqb}
+use borrow.Author.Tests.{eqb-true}
 use native.Mathlib.Omega.{arith}
 use Rattle.language.specs.Term.{Lang, Term, Terms, Arms, fun, con, nil, cons, size}
-use Rattle.language.specs.Scope.{HasK, Scoped, Scopedᵗ, Scopedᵃ, s-fun, s-call, s-bind, s-con, s-cases, s-nil, s-cons, s-arm}
+use Rattle.language.specs.Scope.{HasK, Scoped, Scopedᵗ, Scopedᵃ, s-fun, s-call, s-bind, s-con, s-cases, s-nil, s-cons, s-none, s-arm}
 use Rattle.language.specs.Sub.{sub}
-use Rattle.language.specs.Run.{Value, Values, v-con, v-nil, v-cons, Enters, all, first, rev, itself, Took, here, there}
+use Rattle.language.specs.Run.{Value, Values, v-con, v-nil, v-cons, Enters, all, first, rev, itself, took}
 use Rattle.language.specs.Run.{Run, Runs, taken, built, bound, called, matched, done, then}
 use Rattle.language.specs.Image.{carried, carrieds}
 use Rattle.meaning.proofs.Scopes.{sub-scoped}
@@ -78,9 +82,15 @@ in-con (s-con ps) = ps
 pub in-values : {t : ℕ} {ps : Terms} → Value (con t ps) → Values ps
 in-values (v-con vs) = vs
 
-pub in-arms : {L : Lang} {c d t n : ℕ} {ps : Arms} {b : Term} → Took t n ps b → Scopedᵃ L c d ps → Scoped L c (d + n) b
-in-arms (here e f) (s-arm b ps) = rw f b
-in-arms (there e k) (s-arm b ps) = in-arms k ps
+pub in-arms : {L : Lang} {c d : ℕ} (t n : ℕ) {ps : Arms} {b : Term} → took t n ps ≡ some b → Scopedᵃ L c d ps → Scoped L c (d + n) b
+unfolding took
+in-arms t n {b} k s-none = absurd (Option·none-ne-some b k)
+in-arms {L} {c} {d} t n {b} k (s-arm {t = t'} {n = n'} {b = b'} {ps} hb hs) = chosen (eqb t t' && eqb n n') refl k (λ k. in-arms t n k hs)
+  where
+    chosen : (e : Bool) → (eqb t t' && eqb n n') ≡ e → cond e (some b') (took t n ps) ≡ some b → (took t n ps ≡ some b → Scoped L c (d + n) b)
+        → Scoped L c (d + n) b
+    chosen true e k more = rw (eqb-true n n' (and-eq-true-iff (eqb t t') (eqb n n') .0 e .1), ← (Option·some-injective b' b k)) hb
+    chosen false e k more = more k
 
 -- a body is closed once closed terms are in for all its variables
 pub body-scoped : {L : Lang} {c d : ℕ} {b : Term} {ks xs acc : Terms} → Scoped L c d b → Scopedᵗ L 0 0 ks → Scopedᵗ L 0 0 xs → Scopedᵗ L 0 0 acc
@@ -92,10 +102,10 @@ pub let-scoped : {L : Lang} {v b : Term} → Scoped L 0 1 b → Scoped L 0 0 v �
 unfolding size rev
 let-scoped hb hv = body-scoped {xs = cons _ nil} {acc = nil} hb s-nil (s-cons hv s-nil) s-nil (λ l. omega arith) (omega arith)
 
-pub arm-scoped : {L : Lang} {vs : Terms} {t : ℕ} {b : Term} {ps : Arms} → Took t (size vs) ps b → Scopedᵃ L 0 0 ps → Scopedᵗ L 0 0 vs
+pub arm-scoped : {L : Lang} {vs : Terms} {t : ℕ} {b : Term} {ps : Arms} → took t (size vs) ps ≡ some b → Scopedᵃ L 0 0 ps → Scoped L 0 0 (con t vs)
     → Scoped L 0 0 (sub 0 0 nil (rev vs nil) b)
 unfolding size
-arm-scoped k ps hs = body-scoped (in-arms k ps) s-nil hs s-nil (λ l. omega arith) (omega arith)
+arm-scoped {vs} {t} k ps hv = body-scoped (in-arms t (size vs) k ps) s-nil (in-con hv) s-nil (λ l. omega arith) (omega arith)
 
 pub call-scoped : {L : Lang} {o a : ℕ} {b : Term} {vs ks xs : Terms} → Scoped L 0 0 (fun o a b) → Scopedᵗ L 0 0 vs → Enters L vs ks xs → size xs ≡ a
     → Scoped L 0 0 (sub 0 0 ks (rev xs (itself o (fun o a b))) b)
@@ -111,7 +121,7 @@ mutual
   run-scoped (built n r) (s-con ps) = s-con (runs-scoped r ps)
   run-scoped (bound r s) (s-bind m b) = run-scoped s (let-scoped b (run-scoped r m))
   run-scoped (called f r e n s) (s-call hf hs) = run-scoped s (call-scoped (run-scoped f hf) (runs-scoped r hs) e n)
-  run-scoped (matched r k s) (s-cases hm hs) = run-scoped s (arm-scoped k hs (in-con (run-scoped r hm)))
+  run-scoped (matched r k s) (s-cases hm hs) = run-scoped s (arm-scoped k hs (run-scoped r hm))
 
   pub runs-scoped : {L : Lang} {ts vs : Terms} → Runs L ts vs → Scopedᵗ L 0 0 ts → Scopedᵗ L 0 0 vs
   runs-scoped done h = s-nil

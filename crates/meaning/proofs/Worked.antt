@@ -1,4 +1,4 @@
--- The worked rules A to G run as the table says: both runs of each are found by computing, and each number is compared with the table's.
+-- The worked rules run as the table says: both runs of each are found by computing, and each number is compared with the table's.
 -- Assumes nothing.
 use Prim.Native.Nat.{ℕ}
 use mathlib.Core.Path.{_≡_, refl, sym, ap}
@@ -7,7 +7,7 @@ use mathlib.Core.Option.{Option, some, none}
 use Rattle.language.specs.Term.{rules, images, Term, size}
 use Rattle.language.specs.Words.{words}
 use Rattle.language.specs.Sub.{sub}
-use Rattle.language.specs.Run.{atom, rev, itself, Counts, count}
+use Rattle.language.specs.Run.{atom, rev, itself, took, Counts, count}
 use Rattle.language.specs.Image.{downto, passing, carried, image}
 use Rattle.language.specs.Kinds.{headOf}
 use Rattle.language.specs.Read.{Reading, accepted, refused, then, made, second, many, armsOf, opened, term, closed, ended, read}
@@ -67,5 +67,5 @@ all-computed [] h = tt
 all-computed (x ∷ xs) h = (computed x (read (x .rule)) refl (h .0), all-computed xs (h .1))
 
 pub worked-runs : WorkedRuns
-unfolding read closed ended term then made second many armsOf opened headOf words image passing downto atom size sub rev itself eval count
-worked-runs = all-computed ran (refl, (refl, (refl, (refl, (refl, (refl, (refl, tt)))))))
+unfolding read closed ended term then made second many armsOf opened headOf words image passing downto atom size sub rev itself took eval count
+worked-runs = all-computed ran (refl, (refl, (refl, (refl, (refl, (refl, (refl, (refl, (refl, (refl, (refl, tt)))))))))))

@@ -1,4 +1,4 @@
--- The worked rules A to G of document 01, run as rules and as images: one table, and the one claim that its numbers are those of both runs.
+-- The worked rules A to G of document 01 and those of document 02's Wish 3, run as rules and as images: one table, and the one claim that its numbers are those of both runs.
 use Prim.Native.Nat.{ℕ}
 use mathlib.Core.Path.{_≡_}
 use mathlib.Core.List.{List, [], _∷_}
@@ -7,7 +7,7 @@ use Rattle.language.specs.Words.{words}
 use Rattle.language.specs.Run.{Counts, uses, Run, count}
 use Rattle.language.specs.Image.{image, carried}
 use Rattle.language.specs.Read.{read, accepted}
-use Rattle.language.specs.Cases.{Each, caseA, caseB, caseC, caseD, caseE, caseF, caseG}
+use Rattle.language.specs.Cases.{Each, caseA, caseB, caseC, caseD, caseE, caseF, caseG, short, long, shortArm, longArm, asks}
 use Rattle.meaning.specs.Promises.{applications, Comes}
 
 -- a rule's words, the words of its value, how often its run uses each rule, and document 01's "Applications"
@@ -30,6 +30,10 @@ ran =
     ∷ row caseE (0x0603 ∷ 0x0001 ∷ 0x0600 ∷ 0x0000 ∷ []) (uses 3 1 0 0 1) 10
     ∷ row caseF (0x0600 ∷ 0x0000 ∷ []) (uses 7 2 0 2 0) 20
     ∷ row caseG caseG (uses 1 0 0 0 0) 2
+    ∷ row (asks short shortArm longArm) (0x0601 ∷ 0x0000 ∷ []) (uses 2 0 0 1 0) 5
+    ∷ row (asks long shortArm longArm) (0x0602 ∷ 0x0000 ∷ []) (uses 2 0 0 1 0) 5
+    ∷ row (asks short longArm shortArm) (0x0601 ∷ 0x0000 ∷ []) (uses 2 0 0 1 0) 5
+    ∷ row (asks long longArm shortArm) (0x0602 ∷ 0x0000 ∷ []) (uses 2 0 0 1 0) 5
     ∷ []
 
 -- the rule has a run with the row's value and counts; its image comes to the value's carried form by the row's applications, with as many
