@@ -1,10 +1,11 @@
 #include "cases.h"
 
-/* "a short and a long form of one call request", and an arm for each */
+/* "a short and a long form of one call request", and their arms */
 #define SHORT 0x0605, 0x0000
 #define LONG 0x0605, 0x0001, 0x0602, 0x0000
 #define SHORT_ARM 0x0805, 0x0000, 0x0601, 0x0000
 #define LONG_ARM 0x0805, 0x0001, 0x0100
+#define LATER_ARM 0x0805, 0x0000, 0x0603, 0x0000
 
 const struct accepted_case accepted_cases[ACCEPTED_CASES] = {
     { "case A", WORD_LIST(0x0600, 0x0000), 8, WORD_LIST(0x0600, 0x0000), 2 },
@@ -39,6 +40,9 @@ const struct accepted_case accepted_cases[ACCEPTED_CASES] = {
     { "long request, long arm first",
       WORD_LIST(0x0702, LONG, LONG_ARM, SHORT_ARM), 32,
       WORD_LIST(0x0602, 0x0000), 5 },
+    { "short request, two arms that fit",
+      WORD_LIST(0x0702, SHORT, SHORT_ARM, LATER_ARM), 31,
+      WORD_LIST(0x0601, 0x0000), 5 },
 };
 
 const struct refused_case refused_cases[REFUSED_CASES] = {

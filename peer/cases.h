@@ -22,7 +22,7 @@ struct refused_case {
     struct refusal refusal;
 };
 
-enum { ACCEPTED_CASES = 11, REFUSED_CASES = 6, PLACE_CASES = 24 };
+enum { ACCEPTED_CASES = 12, REFUSED_CASES = 6, PLACE_CASES = 24 };
 
 /* Case O: words 0201 before 0600 0000. */
 enum { O_REFUSED_FUNCTIONS = 64, O_ACCEPTED_FUNCTIONS = 63 };

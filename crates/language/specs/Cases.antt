@@ -1,7 +1,7 @@
 -- The worked rules A to N of document 01, "Worked rules", in one table, and what is claimed of each of them; refusals with their places (document 02,
 -- Wish 1); matches on a short and a long form of one tag (Wish 3). (Case O and larger rules are run by a program.)
 use Prim.Native.Nat.{ℕ}
-use mathlib.Core.List.{List, [], _∷_, _++_}
+use mathlib.Core.List.{List, [], _∷_, _++_, map}
 use mathlib.Core.Option.{Option, some, none}
 use mathlib.Core.Path.{_≡_}
 use lib.ListN.{replicate}
@@ -43,59 +43,84 @@ pub record Meets (c : Case) : Type 0 where
   pub prints : Said (c .printed) (Prints (read (c .rule)))
   pub comes : Said (c .result) (ComesTo (read (c .rule)))
 
--- accepted with room to spare: the image's words, the value and the applications
-abbrev pub runs : List ℕ → ℕ → List ℕ → ℕ → Case
-runs ws n v a = record { rule = ws; room = 100; reply = success n; printed = none; result = some (record { value = v; applications = a }) }
+-- an accepted rule that comes to a value, as document 01's table has it: its words, how many words its image has, the words of the value, and the
+-- applications
+pub record Example : Type 0 where
+  pub rule : List ℕ
+  pub fills : ℕ
+  pub result : Result
+
+abbrev pub example : List ℕ → ℕ → List ℕ → ℕ → Example
+example ws n v a = record { rule = ws; fills = n; result = record { value = v; applications = a } }
+
+-- with room to spare: the count of the image's words, the value and the applications; and the image, in whole
+abbrev pub runs : Example → Case
+runs x = record { rule = x .rule; room = 100; reply = success (x .fills); printed = none; result = some (x .result) }
+
+abbrev pub prints : Example → List ℕ → Case
+prints x i = record { rule = x .rule; room = 100; reply = success (x .fills); printed = some i; result = none }
 
 -- the reply to the writing call that is lent so many words
 abbrev pub replies : List ℕ → ℕ → Reply ℕ → Case
 replies ws room r = record { rule = ws; room = room; reply = r; printed = none; result = none }
 
--- the image, in whole
-abbrev pub prints : List ℕ → List ℕ → Case
-prints ws i = record { rule = ws; room = 100; reply = success 27; printed = some i; result = none }
+-- A to G
+abbrev pub caseA : Example
+caseA = example (0x0600 ∷ 0x0000 ∷ []) 8 (0x0600 ∷ 0x0000 ∷ []) 2
 
--- the cases that are named again
-abbrev pub caseA : List ℕ
-caseA = 0x0600 ∷ 0x0000 ∷ []
+abbrev pub caseB : Example
+caseB = example (0x0401 ∷ 0x0201 ∷ 0x0100 ∷ 0x0600 ∷ 0x0000 ∷ []) 27 (0x0600 ∷ 0x0000 ∷ []) 8
 
-abbrev pub caseB : List ℕ
-caseB = 0x0401 ∷ 0x0201 ∷ 0x0100 ∷ 0x0600 ∷ 0x0000 ∷ []
+abbrev pub caseC : Example
+caseC = example (0x0402 ∷ 0x0202 ∷ 0x0101 ∷ 0x0600 ∷ 0x0000 ∷ 0x0601 ∷ 0x0000 ∷ []) 35 (0x0600 ∷ 0x0000 ∷ []) 10
 
-abbrev pub caseC : List ℕ
-caseC = 0x0402 ∷ 0x0202 ∷ 0x0101 ∷ 0x0600 ∷ 0x0000 ∷ 0x0601 ∷ 0x0000 ∷ []
+abbrev pub caseD : Example
+caseD =
+    example (0x0500 ∷ 0x0601 ∷ 0x0000 ∷ 0x0702 ∷ 0x0100 ∷ 0x0800 ∷ 0x0000 ∷ 0x0100 ∷ 0x0801 ∷ 0x0000 ∷ 0x0602 ∷ 0x0000 ∷ []) 41
+    (0x0602 ∷ 0x0000 ∷ []) 8
 
-abbrev pub caseD : List ℕ
-caseD = 0x0500 ∷ 0x0601 ∷ 0x0000 ∷ 0x0702 ∷ 0x0100 ∷ 0x0800 ∷ 0x0000 ∷ 0x0100 ∷ 0x0801 ∷ 0x0000 ∷ 0x0602 ∷ 0x0000 ∷ []
+abbrev pub caseE : Example
+caseE = example (0x0603 ∷ 0x0001 ∷ 0x0401 ∷ 0x0201 ∷ 0x0100 ∷ 0x0600 ∷ 0x0000 ∷ []) 35 (0x0603 ∷ 0x0001 ∷ 0x0600 ∷ 0x0000 ∷ []) 10
 
-abbrev pub caseE : List ℕ
-caseE = 0x0603 ∷ 0x0001 ∷ 0x0401 ∷ 0x0201 ∷ 0x0100 ∷ 0x0600 ∷ 0x0000 ∷ []
-
-abbrev pub caseF : List ℕ
+abbrev pub caseF : Example
 caseF =
-    0x0401 ∷ 0x0301 ∷ 0x0702 ∷ 0x0100 ∷ 0x0800 ∷ 0x0000 ∷ 0x0600 ∷ 0x0000 ∷ 0x0801 ∷ 0x0001 ∷ 0x0401 ∷ 0x0102 ∷ 0x0100 ∷ 0x0601 ∷ 0x0001
-    ∷ 0x0600 ∷ 0x0000 ∷ []
+    example (0x0401 ∷ 0x0301 ∷ 0x0702 ∷ 0x0100 ∷ 0x0800 ∷ 0x0000 ∷ 0x0600 ∷ 0x0000 ∷ 0x0801 ∷ 0x0001 ∷ 0x0401 ∷ 0x0102 ∷ 0x0100 ∷ 0x0601 ∷ 0x0001
+    ∷ 0x0600 ∷ 0x0000 ∷ []) 64
+    (0x0600 ∷ 0x0000 ∷ []) 20
 
-abbrev pub caseG : List ℕ
-caseG = 0x0601 ∷ 0x0001 ∷ 0x0600 ∷ 0x0000 ∷ []
+abbrev pub caseG : Example
+caseG = example (0x0601 ∷ 0x0001 ∷ 0x0600 ∷ 0x0000 ∷ []) 10 (0x0601 ∷ 0x0001 ∷ 0x0600 ∷ 0x0000 ∷ []) 2
 
 -- Wish 3: "a short and a long form of one call request", here with the tag 5: without an argument, and with one
-abbrev pub short : List ℕ
+abbrev short : List ℕ
 short = 0x0605 ∷ 0x0000 ∷ []
 
-abbrev pub long : List ℕ
+abbrev long : List ℕ
 long = 0x0605 ∷ 0x0001 ∷ 0x0602 ∷ 0x0000 ∷ []
 
--- the arms of the two forms: the one comes to a constructor with the tag 1, the other to the request's argument
-abbrev pub shortArm : List ℕ
+-- the arms of the two forms: the one comes to a constructor with the tag 1, the other to the request's argument; and an arm of the short form again
+abbrev shortArm : List ℕ
 shortArm = 0x0805 ∷ 0x0000 ∷ 0x0601 ∷ 0x0000 ∷ []
 
-abbrev pub longArm : List ℕ
+abbrev longArm : List ℕ
 longArm = 0x0805 ∷ 0x0001 ∷ 0x0100 ∷ []
 
+abbrev laterArm : List ℕ
+laterArm = 0x0805 ∷ 0x0000 ∷ 0x0603 ∷ 0x0000 ∷ []
+
 -- a match of a request with two arms
-abbrev pub asks : List ℕ → List ℕ → List ℕ → List ℕ
+abbrev asks : List ℕ → List ℕ → List ℕ → List ℕ
 asks r a b = 0x0702 ∷ r ++ a ++ b
+
+-- both requests with the arms in both orders; of two arms with tag and arity the first is taken
+abbrev pub requests : List Example
+requests =
+    example (asks short shortArm longArm) 30 (0x0601 ∷ 0x0000 ∷ []) 5
+    ∷ example (asks long shortArm longArm) 32 (0x0602 ∷ 0x0000 ∷ []) 5
+    ∷ example (asks short longArm shortArm) 30 (0x0601 ∷ 0x0000 ∷ []) 5
+    ∷ example (asks long longArm shortArm) 32 (0x0602 ∷ 0x0000 ∷ []) 5
+    ∷ example (asks short shortArm laterArm) 31 (0x0601 ∷ 0x0000 ∷ []) 5
+    ∷ []
 
 abbrev pub imageB : List ℕ
 imageB =
@@ -104,21 +129,17 @@ imageB =
     ∷ 0x0401 ∷ 0x0900 ∷ 0x0600 ∷ 0x0000 ∷ 0x0201 ∷ 0x0402 ∷ 0x0901 ∷ 0x0902
     ∷ 0x0900 ∷ 0x0201 ∷ 0x0900 ∷ []
 
--- A to G, the two requests with their arms in both orders, B's image, H to M, and N at 7 and at 8 words; then faults in the midst of a rule: a
--- constructor's second word and one that is missing, a later argument, an arm's head and its second word
+-- A to G, B's image, H to M, and N at 7 and at 8 words; then faults in the midst of a rule: a constructor's second word and one that is missing, a
+-- later argument, an arm's head and its second word; then the requests
 abbrev pub worked : List Case
 worked =
-    runs caseA 8 (0x0600 ∷ 0x0000 ∷ []) 2
-    ∷ runs caseB 27 (0x0600 ∷ 0x0000 ∷ []) 8
-    ∷ runs caseC 35 (0x0600 ∷ 0x0000 ∷ []) 10
-    ∷ runs caseD 41 (0x0602 ∷ 0x0000 ∷ []) 8
-    ∷ runs caseE 35 (0x0603 ∷ 0x0001 ∷ 0x0600 ∷ 0x0000 ∷ []) 10
-    ∷ runs caseF 64 (0x0600 ∷ 0x0000 ∷ []) 20
-    ∷ runs caseG 10 caseG 2
-    ∷ runs (asks short shortArm longArm) 30 (0x0601 ∷ 0x0000 ∷ []) 5
-    ∷ runs (asks long shortArm longArm) 32 (0x0602 ∷ 0x0000 ∷ []) 5
-    ∷ runs (asks short longArm shortArm) 30 (0x0601 ∷ 0x0000 ∷ []) 5
-    ∷ runs (asks long longArm shortArm) 32 (0x0602 ∷ 0x0000 ∷ []) 5
+    runs caseA
+    ∷ runs caseB
+    ∷ runs caseC
+    ∷ runs caseD
+    ∷ runs caseE
+    ∷ runs caseF
+    ∷ runs caseG
     ∷ prints caseB imageB
     ∷ replies [] 100 (refusal 1 noPlace)
     ∷ replies (0x0100 ∷ []) 100 (refusal 7 0)
@@ -126,14 +147,14 @@ worked =
     ∷ replies (0x0200 ∷ 0x0100 ∷ []) 100 (refusal 5 0)
     ∷ replies (0x0600 ∷ 0x0000 ∷ 0x0600 ∷ []) 100 (refusal 8 2)
     ∷ replies (0x0A00 ∷ []) 100 (refusal 4 0)
-    ∷ replies caseA 7 (refusal 9 noPlace)
-    ∷ replies caseA 8 (success 8)
+    ∷ replies (caseA .rule) 7 (refusal 9 noPlace)
+    ∷ replies (caseA .rule) 8 (success 8)
     ∷ replies (0x0600 ∷ 0x0009 ∷ []) 100 (refusal 5 1)
     ∷ replies (0x0600 ∷ []) 100 (refusal 3 1)
     ∷ replies (0x0402 ∷ 0x0201 ∷ 0x0100 ∷ 0x0600 ∷ 0x0000 ∷ 0x0101 ∷ []) 100 (refusal 7 5)
     ∷ replies (0x0701 ∷ 0x0600 ∷ 0x0000 ∷ 0x0600 ∷ []) 100 (refusal 4 3)
     ∷ replies (0x0701 ∷ 0x0600 ∷ 0x0000 ∷ 0x0800 ∷ 0x0009 ∷ []) 100 (refusal 5 4)
-    ∷ []
+    ∷ map runs requests
 
 -- P holds of each of them
 abbrev pub Each : {A : Type 0} → (A → Type 0) → List A → Type 0

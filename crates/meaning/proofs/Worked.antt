@@ -26,7 +26,9 @@ abbrev Seen : Type 0
 Seen = List ℕ × Counts × Term × ℕ × ℕ × ℕ × ℕ
 
 abbrev listed : {t : Term} → Row → Ran rules t → Seen
-listed x r = (x .value, x .used, carried (r .value), x .made, x .used .lets, x .used .matches, x .made)
+listed x r =
+    let e = x .of .result in
+    (e .value, x .used, carried (r .value), e .applications, x .used .lets, x .used .matches, e .applications)
 
 abbrev found : {t : Term} → Row → Ran rules t → Ran images (image t) → Seen
 found x r s =
@@ -43,7 +45,7 @@ abbrev Computed : Row → Reading → Type 0
 Computed x (accepted t) = Compared x (eval rules levels t) (eval images levels (image t))
 Computed x (refused e p) = ⊥
 
-compared : (x : Row) (t : Term) → read (x .rule) ≡ accepted t → (r : Option (Ran rules t)) (s : Option (Ran images (image t)))
+compared : (x : Row) (t : Term) → read (x .of .rule) ≡ accepted t → (r : Option (Ran rules t)) (s : Option (Ran images (image t)))
     → Compared x r s → Agrees x
 compared x t e none s h = absurd h
 compared x t e (some r) none h = absurd h
@@ -58,14 +60,14 @@ compared x t e (some r) (some s) h = record {
   sum-is = ap (λ y. y .6) h;
 }
 
-computed : (x : Row) (g : Reading) → read (x .rule) ≡ g → Computed x g → Agrees x
+computed : (x : Row) (g : Reading) → read (x .of .rule) ≡ g → Computed x g → Agrees x
 computed x (accepted t) e h = compared x t e (eval rules levels t) (eval images levels (image t)) h
 computed x (refused n p) e h = absurd h
 
-all-computed : (xs : List Row) → Each (λ x. Computed x (read (x .rule))) xs → Each Agrees xs
+all-computed : (xs : List Row) → Each (λ x. Computed x (read (x .of .rule))) xs → Each Agrees xs
 all-computed [] h = tt
-all-computed (x ∷ xs) h = (computed x (read (x .rule)) refl (h .0), all-computed xs (h .1))
+all-computed (x ∷ xs) h = (computed x (read (x .of .rule)) refl (h .0), all-computed xs (h .1))
 
 pub worked-runs : WorkedRuns
 unfolding read closed ended term then made second many armsOf opened headOf words image passing downto atom size sub rev itself took eval count
-worked-runs = all-computed ran (refl, (refl, (refl, (refl, (refl, (refl, (refl, (refl, (refl, (refl, (refl, tt)))))))))))
+worked-runs = all-computed ran (refl, (refl, (refl, (refl, (refl, (refl, (refl, (refl, (refl, (refl, (refl, (refl, tt))))))))))))
