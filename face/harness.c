@@ -1,8 +1,8 @@
 /*
- * Calls every function of peatnickel.h as a program in C does: on the paper's worked rules A to O, on every refusal from 0 to
- * 12 and its places, on outputs one element short, and at the limits. Each call is made on a painted output, and everything
- * that the reply does not name must keep its paint. The cases and the images beside the paper's own come from the second
- * translator, peer/.
+ * Calls every function of peatnickel.h as a program in C does: on the paper's worked rules A to O, on every refusal and its
+ * places, on outputs one element short, and at the limits. Each call is made on a painted output, and everything that the
+ * reply does not name must keep its paint. The cases and the images beside the paper's own come from the second translator,
+ * peer/.
  */
 #include <stdbool.h>
 #include <stdint.h>
@@ -21,7 +21,7 @@ enum {
     HEADER = 7,
     ROOM = IMAGE_MOST + 8,
     FILE_ROOM = HEADER + 2 * ROOM,
-    LAST_REFUSAL = 12,
+    LAST_REFUSAL = PEATNICKEL_DEAD_ARM,
     WRONG_WORD = 0xFFFF /* neither a head nor a second word */
 };
 
@@ -54,7 +54,13 @@ static uint32_t refusal(uint32_t number, size_t place)
     return PEATNICKEL_REFUSALS + number + PEATNICKEL_REFUSALS * (uint32_t)place;
 }
 
-/* All refusals but 3 to 8 carry place 0. */
+/* The refusals that there are: 0 to 12 and 18. */
+static bool is_number(uint32_t number)
+{
+    return number <= PEATNICKEL_WRONG_LENGTH || number == PEATNICKEL_DEAD_ARM;
+}
+
+/* All refusals but 3 to 8 and 18 carry place 0. */
 static uint32_t placeless(uint32_t number)
 {
     return refusal(number, 0);
@@ -355,12 +361,13 @@ int main(void)
     worked_cases();
     case_o();
     refused_rules(place_cases, PLACE_CASES);
+    refused_rules(dead_cases, DEAD_CASES);
     spoiled_cases();
     longest_rules();
     longest_files();
     bad_files();
     for (unsigned number = 0; number <= LAST_REFUSAL; number++)
-        expect(given[number], "each refusal was given", "refusals");
+        expect(given[number] == is_number(number), "each refusal was given, and no other", "refusals");
     printf("%u checks, %u failures\n", checks, failures);
     return failures == 0 ? EXIT_SUCCESS : EXIT_FAILURE;
 }

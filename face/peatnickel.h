@@ -13,8 +13,8 @@
  *   file 57,351 bytes. From 65,536 on it is a refusal: what it has above 65,536 holds the refusal's number in its low 16 bits
  *   and the refusal's place in its high 16 bits. The reply and all that a call leaves in an output are determined by what was
  *   lent.
- * - Refusals 3 to 8 carry the place of the word tested, counted from 0; 3 carries the number of words given. All other
- *   refusals carry place 0. No place is more than 4,096.
+ * - Refusals 3 to 8 and 18 carry the place of the word tested, counted from 0; 3 carries the number of words given. All
+ *   other refusals carry place 0. No place is more than 4,096.
  * - A refusal leaves every buffer as it was. Success fills the front of the output; the rest of it is as it was.
  * - No call keeps anything, waits, allocates memory, or fails to return. The stack that each uses is in docs/COST.md.
  * - Any words, any bytes and any lengths may be lent. What the functions cannot see is the caller's part: each pointer is to
@@ -47,7 +47,8 @@ enum peatnickel_refusal {
     PEATNICKEL_NO_ROOM = 9,        /* the lent output is shorter than what is to be written */
     PEATNICKEL_WRONG_MARK = 10,    /* file under 7 bytes, or its mark is not that of the form asked for */
     PEATNICKEL_WRONG_VERSION = 11, /* version is not 1 */
-    PEATNICKEL_WRONG_LENGTH = 12   /* file length is not 7 plus twice its count */
+    PEATNICKEL_WRONG_LENGTH = 12,  /* file length is not 7 plus twice its count */
+    PEATNICKEL_DEAD_ARM = 18       /* an earlier arm of the same match has the same tag and arity */
 };
 
 /* The forms of files. */
@@ -70,18 +71,18 @@ static inline uint32_t peatnickel_place_of(uint32_t reply)
     return (reply - PEATNICKEL_REFUSALS) / PEATNICKEL_REFUSALS;
 }
 
-/* Whether the words are a rule: 0, or a refusal 1 to 8, from 3 on with the place of the word tested. */
+/* Whether the words are a rule: 0, or a refusal 1 to 8 or 18, from 3 on with the place of the word tested. */
 uint32_t peatnickel_check(const uint16_t *words, size_t word_count);
 
 /*
- * How many words the image of the rule has, or a refusal 1 to 8, the one that peatnickel_check gives. At most seven for each
- * word of the rule.
+ * How many words the image of the rule has, or the refusal that peatnickel_check gives. At most seven for each word of the
+ * rule.
  */
 uint32_t peatnickel_measure(const uint16_t *words, size_t word_count);
 
 /*
- * Writes the image of the rule at the front of the output: its word count, or a refusal 1 to 9. The refusals 1 to 8 are those
- * that peatnickel_check gives, whatever the room; 9 is at place 0.
+ * Writes the image of the rule at the front of the output: its word count, or the refusal that peatnickel_check gives,
+ * whatever the room, or 9 at place 0.
  */
 uint32_t peatnickel_write(uint16_t *out, size_t out_count, const uint16_t *words, size_t word_count);
 

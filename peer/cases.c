@@ -7,6 +7,14 @@
 #define LONG_ARM 0x0805, 0x0001, 0x0100
 #define LATER_ARM 0x0805, 0x0000, 0x0603, 0x0000
 
+/* Arms of both forms, and matches on a form that come to the long one. */
+#define BOTH_ARMS SHORT_ARM, LONG_ARM
+#define SHORT_TO_LONG 0x0702, SHORT, 0x0805, 0x0000, LONG, LONG_ARM
+#define NEST_TO_LONG 0x0702, SHORT, 0x0805, 0x0000, SHORT_TO_LONG, LONG_ARM
+
+/* A match up to its second arm's head, after which it may be dead. */
+#define UP_TO_SECOND 0x0702, SHORT, SHORT_ARM, 0x0805
+
 const struct accepted_case accepted_cases[ACCEPTED_CASES] = {
     { "case A", WORD_LIST(0x0600, 0x0000), 8, WORD_LIST(0x0600, 0x0000), 2 },
     { "case B", WORD_LIST(0x0401, 0x0201, 0x0100, 0x0600, 0x0000), 27,
@@ -40,9 +48,20 @@ const struct accepted_case accepted_cases[ACCEPTED_CASES] = {
     { "long request, long arm first",
       WORD_LIST(0x0702, LONG, LONG_ARM, SHORT_ARM), 32,
       WORD_LIST(0x0602, 0x0000), 5 },
-    { "short request, two arms that fit",
-      WORD_LIST(0x0702, SHORT, SHORT_ARM, LATER_ARM), 31,
-      WORD_LIST(0x0601, 0x0000), 5 },
+    { "match in the subject, with the outer's tag and arities",
+      WORD_LIST(0x0702, SHORT_TO_LONG, BOTH_ARMS), 54,
+      WORD_LIST(0x0602, 0x0000), 8 },
+    { "match in an arm's body, with the outer's tag and arities",
+      WORD_LIST(0x0702, LONG, 0x0805, 0x0001, 0x0702, LONG, BOTH_ARMS,
+                SHORT_ARM),
+      57, WORD_LIST(0x0602, 0x0000), 8 },
+    { "matches in the subject and in an arm's body, with the outer's",
+      WORD_LIST(0x0702, 0x0702, SHORT, 0x0805, 0x0000, SHORT, LONG_ARM, 0x0805,
+                0x0000, 0x0702, SHORT, LONG_ARM, SHORT_ARM, LONG_ARM),
+      74, WORD_LIST(0x0601, 0x0000), 11 },
+    { "match in an arm's body in the subject, all with one tag and arities",
+      WORD_LIST(0x0702, NEST_TO_LONG, BOTH_ARMS), 76,
+      WORD_LIST(0x0602, 0x0000), 11 },
 };
 
 const struct refused_case refused_cases[REFUSED_CASES] = {
@@ -124,6 +143,67 @@ const struct refused_case place_cases[PLACE_CASES] = {
     { "three words left over, one of no kind",
       WORD_LIST(0x0401, 0x0201, 0x0100, 0x0600, 0x0000, 0x0600, 0x0000, 0x0A00),
       { REFUSED_WORDS_LEFT, 5 } },
+};
+
+/* "18, with its place, at an arm's second word after 3 and 5" */
+const struct refused_case dead_cases[DEAD_CASES] = {
+    { "second arm dead", WORD_LIST(0x0702, SHORT, SHORT_ARM, LATER_ARM),
+      { REFUSED_DEAD_ARM, 8 } },
+    { "second arm dead, of arity 1",
+      WORD_LIST(0x0702, LONG, LONG_ARM, LONG_ARM), { REFUSED_DEAD_ARM, 9 } },
+    { "third arm dead by the first",
+      WORD_LIST(0x0703, SHORT, BOTH_ARMS, LATER_ARM),
+      { REFUSED_DEAD_ARM, 11 } },
+    { "third arm dead by the second",
+      WORD_LIST(0x0703, SHORT, BOTH_ARMS, LONG_ARM),
+      { REFUSED_DEAD_ARM, 11 } },
+    { "second and third arm dead",
+      WORD_LIST(0x0703, SHORT, SHORT_ARM, LATER_ARM, LATER_ARM),
+      { REFUSED_DEAD_ARM, 8 } },
+    { "arm dead after a match in the subject",
+      WORD_LIST(0x0702, SHORT_TO_LONG, LONG_ARM, LONG_ARM),
+      { REFUSED_DEAD_ARM, 17 } },
+    { "arm dead after a match in an arm's body",
+      WORD_LIST(0x0702, SHORT, 0x0805, 0x0000, SHORT_TO_LONG, LATER_ARM),
+      { REFUSED_DEAD_ARM, 18 } },
+    { "arm dead in the subject's match",
+      WORD_LIST(0x0702, 0x0702, SHORT, SHORT_ARM, LATER_ARM, BOTH_ARMS),
+      { REFUSED_DEAD_ARM, 9 } },
+    { "arm dead in the match of an arm's body",
+      WORD_LIST(0x0702, SHORT, LONG_ARM, 0x0805, 0x0000, 0x0702, LONG, LONG_ARM,
+                LONG_ARM),
+      { REFUSED_DEAD_ARM, 17 } },
+    { "dead arm's missing second word", WORD_LIST(UP_TO_SECOND),
+      { REFUSED_WORD_MISSING, 8 } },
+    { "dead arm's second word", WORD_LIST(UP_TO_SECOND, 0x0009, SHORT),
+      { REFUSED_RANGE, 8 } },
+    { "second word with an earlier one's low byte",
+      WORD_LIST(UP_TO_SECOND, 0x0100, SHORT), { REFUSED_RANGE, 8 } },
+    { "kind of an arm that would be dead",
+      WORD_LIST(0x0702, SHORT, SHORT_ARM, 0x0705, 0x0000, SHORT),
+      { REFUSED_KIND, 7 } },
+    { "dead arm's missing body", WORD_LIST(UP_TO_SECOND, 0x0000),
+      { REFUSED_DEAD_ARM, 8 } },
+    { "kind of a dead arm's body", WORD_LIST(UP_TO_SECOND, 0x0000, 0x0A00),
+      { REFUSED_DEAD_ARM, 8 } },
+    { "range of a dead arm's body",
+      WORD_LIST(UP_TO_SECOND, 0x0000, 0x0200, 0x0100),
+      { REFUSED_DEAD_ARM, 8 } },
+    { "variable in a dead arm's body", WORD_LIST(UP_TO_SECOND, 0x0000, 0x0100),
+      { REFUSED_DEAD_ARM, 8 } },
+    { "words left over after a dead arm",
+      WORD_LIST(UP_TO_SECOND, 0x0000, SHORT, 0x0100), { REFUSED_DEAD_ARM, 8 } },
+    { "kind of the body before a dead arm",
+      WORD_LIST(0x0702, SHORT, 0x0805, 0x0000, 0x0A00, LATER_ARM),
+      { REFUSED_KIND, 5 } },
+    { "range of the body before a dead arm",
+      WORD_LIST(0x0702, SHORT, 0x0805, 0x0000, 0x0601, 0x0009, LATER_ARM),
+      { REFUSED_RANGE, 6 } },
+    { "variable in the body before a dead arm",
+      WORD_LIST(0x0702, SHORT, 0x0805, 0x0000, 0x0100, LATER_ARM),
+      { REFUSED_UNBOUND, 5 } },
+    { "variable in the subject before a dead arm",
+      WORD_LIST(0x0702, 0x0100, SHORT_ARM, LATER_ARM), { REFUSED_UNBOUND, 1 } },
 };
 
 const struct word_list case_b_image = WORD_LIST(

@@ -22,7 +22,12 @@ struct refused_case {
     struct refusal refusal;
 };
 
-enum { ACCEPTED_CASES = 12, REFUSED_CASES = 6, PLACE_CASES = 24 };
+enum {
+    ACCEPTED_CASES = 15,
+    REFUSED_CASES = 6,
+    PLACE_CASES = 24,
+    DEAD_CASES = 22
+};
 
 /* Case O: words 0201 before 0600 0000. */
 enum { O_REFUSED_FUNCTIONS = 64, O_ACCEPTED_FUNCTIONS = 63 };
@@ -30,12 +35,14 @@ enum { O_REFUSED_FUNCTIONS = 64, O_ACCEPTED_FUNCTIONS = 63 };
 /* Case N: the outputs lent for case A. */
 enum { N_SHORT_OUTPUT = 7, N_LONG_ENOUGH_OUTPUT = 8 };
 
-/* A to G, then matches on two forms of one tag. */
+/* A to G, then matches on two forms of one tag, also one inside the other. */
 extern const struct accepted_case accepted_cases[ACCEPTED_CASES];
 /* H to M. */
 extern const struct refused_case refused_cases[REFUSED_CASES];
 /* Rules refused at one of their parts, where another place lies near. */
 extern const struct refused_case place_cases[PLACE_CASES];
+/* Rules with dead arms, and those where another fault stands before one. */
+extern const struct refused_case dead_cases[DEAD_CASES];
 
 extern const struct word_list case_b_image;
 extern const struct byte_list case_b_file;

@@ -18,6 +18,9 @@ static const struct shape {
 
 enum { SHARES = 100 };
 
+/* One in so many may have dead arms: in some of these many, in some few. */
+enum { DEAD_RULE_ODDS = 20, DEAD_ARM_ODDS_LEAST = 2, DEAD_ARM_ODDS_MOST = 24 };
+
 /* One in so many is damaged, half of these by changed words. */
 enum { DAMAGED_ODDS = 5, CHANGED_WORDS_MOST = 3, APPENDED_WORDS_MOST = 4 };
 
@@ -110,15 +113,24 @@ static uint32_t state_of_rule(uint32_t seed, size_t number)
     return (uint32_t)mixed == 0 ? 1 : (uint32_t)mixed;
 }
 
+static size_t dead_odds_of_rule(struct maker *maker)
+{
+    return one_in(maker, DEAD_RULE_ODDS)
+               ? from_to(maker, DEAD_ARM_ODDS_LEAST, DEAD_ARM_ODDS_MOST)
+               : 0;
+}
+
 static void put_rule(struct record *record, uint32_t seed, size_t number)
 {
     const size_t words_most = RECORD_WORDS_MOST - APPENDED_WORDS_MOST;
     struct maker maker =
         maker_into(&record->sink, state_of_rule(seed, number));
     bool harmed = one_in(&maker, DAMAGED_ODDS);
+    size_t dead_odds = dead_odds_of_rule(&maker);
 
     do {
         maker = maker_into(&record->sink, maker.state);
+        maker.dead_odds = dead_odds;
         put_shape(&maker, record);
     } while (record->sink.count > words_most);
     if (harmed)

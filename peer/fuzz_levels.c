@@ -1,5 +1,6 @@
 #include "fuzz_levels.h"
 
+#include "gen_arms.h"
 #include "gen_fitting.h"
 #include "gen_free.h"
 #include "gen_record.h"
@@ -14,6 +15,7 @@ struct level {
     size_t inner;
     size_t let_type; /* of what a let binds */
     struct place place;
+    struct arms arms; /* a match's, so far */
 };
 
 static size_t free_count(struct maker *maker, size_t most)
@@ -107,19 +109,17 @@ static size_t type_of_part(const struct level *level, size_t part)
     return DATA;
 }
 
-static void put_arm_words(struct maker *maker, const struct levels *levels,
-                          size_t arm)
+static void enter_arm(struct maker *maker, bool fitting, struct arms *arms)
 {
-    size_t tag = levels->fitting ? arm : below(maker, FITTING_TAGS);
-    size_t arity = levels->fitting ? arm : below(maker, SECOND_WORD_MOST + 1);
+    size_t tag = fitting ? arms->count : below(maker, FITTING_TAGS);
+    size_t arity = fitting ? arms->count : below(maker, SECOND_WORD_MOST + 1);
 
-    put_two(maker->sink, KIND_ARM, tag, arity);
-    bind_variables(maker, DATA, arity);
+    put_arm(maker, arms, (struct arm){ tag, arity });
 }
 
 /* Writes what stands before a part and binds what is bound in it. */
 static void enter_part(struct maker *maker, const struct levels *levels,
-                       const struct level *level, size_t part)
+                       struct level *level, size_t part)
 {
     switch (level->kind) {
     case KIND_FUNCTION:
@@ -132,7 +132,7 @@ static void enter_part(struct maker *maker, const struct levels *levels,
         return;
     case KIND_MATCH:
         if (part > 0)
-            put_arm_words(maker, levels, part - 1);
+            enter_arm(maker, levels->fitting, &level->arms);
         return;
     default:
         return;

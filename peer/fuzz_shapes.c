@@ -47,6 +47,7 @@ enum {
     FREE_ODDS = 2,
     NEAR_LEVELS_ODDS = 2,
     LAST_PART_ODDS = 2,
+    DEAD_WIDE_ODDS = 6,
     TOWER_ODDS = 2,
     EDGE_ODDS = 4,
     RECURSIVE_ODDS = 8,
@@ -107,6 +108,8 @@ void put_wide(struct maker *maker, struct record *record)
                              .beside_most = WIDE_BESIDE_MOST,
                              .put_ending = put_wide_term };
 
+    if (one_in(maker, DEAD_WIDE_ODDS))
+        maker->dead_odds = ARMS_MOST; /* so that late arms are dead too */
     start_record(record);
     put_levels(maker, &levels, whole_rule, below(maker, WIDE_LEVELS_MOST + 1));
 }

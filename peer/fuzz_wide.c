@@ -1,5 +1,6 @@
 #include "fuzz_wide.h"
 
+#include "gen_arms.h"
 #include "gen_record.h"
 
 enum {
@@ -11,6 +12,11 @@ enum {
 
 /* One in so many is too wide; there are thirty arms and one is enough. */
 enum { TOO_WIDE_ODDS = 6, TOO_WIDE_ARM_ODDS = 150, RECURSIVE_ODDS = 3 };
+
+/* Of so many arms of a wide match one wants the tag before its own, one any. */
+enum wide_tag { TAG_BEFORE, TAG_ANY, WIDE_TAGS = 5 };
+
+enum { TAGS = LOW_BYTE_MOST + 1 };
 
 static size_t wide_count(struct maker *maker, size_t too_wide_odds)
 {
@@ -61,26 +67,44 @@ static void put_wide_constructor(struct maker *maker,
     put_data(maker, levels, depth + 1, arguments);
 }
 
-/* Each arm's tag is its place; one of them is made to fit the subject. */
+/* The tag is most often the one that comes next. */
+static struct arm wide_arm(struct maker *maker, size_t next_tag)
+{
+    struct arm arm = { .tag = next_tag % TAGS };
+
+    switch (below(maker, WIDE_TAGS)) {
+    case TAG_BEFORE:
+        arm.tag = (arm.tag + TAGS - 1) % TAGS;
+        break;
+    case TAG_ANY:
+        arm.tag = below(maker, TAGS);
+        break;
+    default:
+        break;
+    }
+    arm.arity = wide_count(maker, TOO_WIDE_ARM_ODDS);
+    return arm;
+}
+
+/* One of the arms is made to fit the subject. */
 static void put_wide_match(struct maker *maker, const struct levels *levels,
                            size_t depth)
 {
     size_t outside = maker->bound;
-    size_t arms = one_in(maker, TOO_WIDE_ODDS)
-                      ? (size_t)TOO_MANY_ARMS
-                      : from_to(maker, WIDE_ARMS_LEAST, ARMS_MOST);
-    size_t tag = below(maker, arms);
-    size_t arguments = wide_count(maker, TOO_WIDE_ARM_ODDS);
+    size_t count = one_in(maker, TOO_WIDE_ODDS)
+                       ? (size_t)TOO_MANY_ARMS
+                       : from_to(maker, WIDE_ARMS_LEAST, ARMS_MOST);
+    size_t first_tag = below(maker, TAGS);
+    size_t place = below(maker, count);
+    struct arm fitting = wide_arm(maker, first_tag + place);
+    struct arms arms = { .count = 0 };
 
-    put_kind(maker->sink, KIND_MATCH, arms);
-    put_two(maker->sink, KIND_CONSTRUCTOR, tag, arguments);
-    put_data(maker, levels, depth + 2, arguments);
-    for (size_t i = 0; i < arms; i++) {
-        size_t arity = i == tag ? arguments
-                                : wide_count(maker, TOO_WIDE_ARM_ODDS);
-
-        put_two(maker->sink, KIND_ARM, i, arity);
-        bind_variables(maker, DATA, arity);
+    put_kind(maker->sink, KIND_MATCH, count);
+    put_two(maker->sink, KIND_CONSTRUCTOR, fitting.tag, fitting.arity);
+    put_data(maker, levels, depth + 2, fitting.arity);
+    for (size_t i = 0; i < count; i++) {
+        put_arm(maker, &arms,
+                i == place ? fitting : wide_arm(maker, first_tag + i));
         put_data(maker, levels, depth + 1, 1);
         maker->bound = outside;
     }

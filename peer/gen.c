@@ -3,6 +3,7 @@
 #include <stdlib.h>
 
 #include "cases.h"
+#include "gen_dead.h"
 #include "gen_faults.h"
 #include "gen_limits.h"
 #include "gen_places.h"
@@ -35,6 +36,7 @@ int generate_corpus(FILE *out)
     write_worked_rules(out);
     write_faults(out);
     write_places(out);
+    write_dead_arms(out);
     write_limits(out);
     write_runs(out);
     write_random_rules(out);

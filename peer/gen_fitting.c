@@ -1,13 +1,9 @@
 #include "gen_fitting.h"
 
+#include "gen_arms.h"
 #include "gen_record.h"
 
 enum { OTHER_ARMS_MOST = 2 };
-
-struct arm {
-    size_t tag;
-    size_t arity;
-};
 
 /* One in so many is the rarer choice. */
 enum { FITTING_RECURSIVE_ODDS = 4, DATA_ODDS = 2, NEW_TAG_ODDS = 2 };
@@ -114,19 +110,19 @@ static void put_fitting_match(struct maker *maker, size_t type,
 {
     size_t others = below(maker, OTHER_ARMS_MOST + 1);
     size_t first = below(maker, others + 1);
-    size_t arms = FITTING_TAGS + others;
+    size_t count = FITTING_TAGS + others;
     size_t outside = maker->bound;
+    struct arms arms = { .count = 0 };
 
-    put_kind(maker->sink, KIND_MATCH, arms);
-    put_fitting(maker, DATA, part_of(spot, arms + 1));
-    for (size_t i = 0; i < arms; i++) {
+    put_kind(maker->sink, KIND_MATCH, count);
+    put_fitting(maker, DATA, part_of(spot, count + 1));
+    for (size_t i = 0; i < count; i++) {
         bool taken = i >= first && i < first + FITTING_TAGS;
         struct arm arm = taken ? (struct arm){ i - first, i - first }
                                : other_arm(maker, FITTING_TAGS + i);
 
-        put_two(maker->sink, KIND_ARM, arm.tag, arm.arity);
-        bind_variables(maker, DATA, arm.arity);
-        put_fitting(maker, type, part_of(spot, arms + 1));
+        put_arm(maker, &arms, arm);
+        put_fitting(maker, type, part_of(spot, count + 1));
         maker->bound = outside;
     }
 }

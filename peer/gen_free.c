@@ -1,5 +1,6 @@
 #include "gen_free.h"
 
+#include "gen_arms.h"
 #include "gen_record.h"
 
 /* One in so many is the rarer choice. */
@@ -91,16 +92,17 @@ static void put_free_constructor(struct maker *maker, struct spot spot)
 static void put_free_match(struct maker *maker, struct spot spot)
 {
     size_t outside = maker->bound;
-    size_t arms = free_count(maker, ARMS_MOST, spot);
+    size_t count = free_count(maker, ARMS_MOST, spot);
+    struct arms arms = { .count = 0 };
 
-    put_kind(maker->sink, KIND_MATCH, arms);
-    put_free(maker, part_of(spot, arms + 1));
-    for (size_t i = 0; i < arms; i++) {
+    put_kind(maker->sink, KIND_MATCH, count);
+    put_free(maker, part_of(spot, count + 1));
+    for (size_t i = 0; i < count; i++) {
         size_t arity = below(maker, SECOND_WORD_MOST + 1);
+        size_t tag = below(maker, FITTING_TAGS);
 
-        put_two(maker->sink, KIND_ARM, below(maker, FITTING_TAGS), arity);
-        bind_variables(maker, DATA, arity);
-        put_free(maker, part_of(spot, arms + 1));
+        put_arm(maker, &arms, (struct arm){ tag, arity });
+        put_free(maker, part_of(spot, count + 1));
         maker->bound = outside;
     }
 }

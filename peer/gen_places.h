@@ -1,4 +1,4 @@
-/* Refusals 3 to 8 in every part of every form, near the front and far off. */
+/* Refusals 3 to 8 and 18 in every part of every form, near and far off. */
 #ifndef PEER_GEN_PLACES_H
 #define PEER_GEN_PLACES_H
 

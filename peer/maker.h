@@ -30,6 +30,7 @@ struct maker {
     uint32_t state;
     size_t leaf_depth; /* from there on a leaf is written */
     size_t edge_odds;  /* one free leaf in so many is at the edge; 0: none */
+    size_t dead_odds;  /* one arm in so many is dead; 0: none */
     size_t bound;
     uint8_t types[VARIABLES_MOST];
 };

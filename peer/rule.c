@@ -89,30 +89,63 @@ static bool test_arm_head(struct reader *reader, struct head *head)
     return true;
 }
 
-/* "At a second word: 3, 5." A head without a second word passes. */
-static bool test_second(struct reader *reader, struct head head,
-                        uint16_t *second)
+/* "At a second word: 3, 5." It stays the next word, for a test of its own. */
+static bool test_second(struct reader *reader, uint16_t *second)
 {
-    *second = 0;
-    if (!kind_has_second_word(head.kind))
-        return true;
     if (no_word_is_left(reader))
         return refuse(reader, REFUSED_WORD_MISSING);
     if (!second_is_in_range(reader->words.words[reader->next]))
         return refuse(reader, REFUSED_RANGE);
     *second = reader->words.words[reader->next];
+    return true;
+}
+
+/* A head without a second word passes. */
+static bool test_term_second(struct reader *reader, struct head head,
+                             uint16_t *second)
+{
+    *second = 0;
+    if (!kind_has_second_word(head.kind))
+        return true;
+    if (!test_second(reader, second))
+        return false;
     reader->next++;
     return true;
 }
 
-/* "an arm's body one deeper than its match" */
-static const struct term *read_arm(struct reader *reader, size_t match_depth,
-                                   struct scope scope)
+/* "a second arm with the same tag and arity can never be taken" */
+static bool is_dead(const struct term *match, size_t part, struct head head,
+                    uint16_t second)
+{
+    for (size_t i = 1; i < part; i++)
+        if (match->parts[i]->low == head.low &&
+            match->parts[i]->second == second)
+            return true;
+    return false;
+}
+
+/* "18, with its place, at an arm's second word after 3 and 5" */
+static bool test_arm_second(struct reader *reader, const struct term *match,
+                            size_t part, struct head head, uint16_t *second)
+{
+    if (!test_second(reader, second))
+        return false;
+    if (is_dead(match, part, head, *second))
+        return refuse(reader, REFUSED_DEAD_ARM);
+    reader->next++;
+    return true;
+}
+
+/* "an arm's body one deeper than its match"; the parts before it are in. */
+static const struct term *read_arm(struct reader *reader,
+                                   const struct term *match, size_t part,
+                                   size_t match_depth, struct scope scope)
 {
     struct head head;
     uint16_t second;
 
-    if (!test_arm_head(reader, &head) || !test_second(reader, head, &second))
+    if (!test_arm_head(reader, &head) ||
+        !test_arm_second(reader, match, part, head, &second))
         return NULL;
     struct term *arm =
         term_with_parts(reader->arena, head.kind, head.low, second);
@@ -127,7 +160,7 @@ static bool read_parts(struct reader *reader, struct term *term, size_t depth,
 {
     for (size_t i = 0; i < term->part_count; i++) {
         if (term->kind == KIND_MATCH && i > 0)
-            term->parts[i] = read_arm(reader, depth, scope);
+            term->parts[i] = read_arm(reader, term, i, depth, scope);
         else
             term->parts[i] =
                 read_term(reader, depth + 1,
@@ -145,7 +178,7 @@ static const struct term *read_term(struct reader *reader, size_t depth,
     uint16_t second;
 
     if (!test_term_head(reader, depth, scope, &head) ||
-        !test_second(reader, head, &second))
+        !test_term_second(reader, head, &second))
         return NULL;
     struct term *term =
         term_with_parts(reader->arena, head.kind, head.low, second);

@@ -9,7 +9,7 @@
 #include "term.h"
 #include "words.h"
 
-/* The paper's numbers, section "Checks in order". */
+/* The paper's numbers, section "Checks in order", and the request's 18. */
 enum refusal_number {
     REFUSED_NOTHING = 0,
     REFUSED_NO_WORDS = 1,
@@ -23,7 +23,8 @@ enum refusal_number {
     REFUSED_OUTPUT_SHORT = 9,
     REFUSED_MARK = 10,
     REFUSED_VERSION = 11,
-    REFUSED_FILE_LENGTH = 12
+    REFUSED_FILE_LENGTH = 12,
+    REFUSED_DEAD_ARM = 18
 };
 
 enum {
@@ -34,7 +35,8 @@ enum {
 
 /*
  * "Refusals 3 to 8 shall carry the place of the word tested, counted from 0; 3
- * carries the number of words given. All other refusals carry place 0."
+ * carries the number of words given. All other refusals carry place 0." Of
+ * those that came later, 18 has "its place" too.
  */
 struct refusal {
     enum refusal_number number;

@@ -8,6 +8,7 @@
 #include "demand3.h"
 #include "gen_record.h"
 #include "image.h"
+#include "selftest_dead.h"
 #include "selftest_files.h"
 #include "tally.h"
 
@@ -116,18 +117,6 @@ static void try_run_cases(struct tally *tally)
     }
 }
 
-static bool every_call_refuses(struct word_list rule, struct refusal refusal)
-{
-    uint16_t output[LENT_WORDS];
-
-    lend_words(output);
-    return is_refusal(check_rule(rule), refusal) &&
-           is_refusal(measure_image(rule).refusal, refusal) &&
-           is_refusal(write_image(rule, output, LENT_WORDS).refusal,
-                      refusal) &&
-           untouched_from(output, 0);
-}
-
 static void try_refused(struct tally *tally, const struct refused_case *cases,
                         size_t count)
 {
@@ -222,6 +211,8 @@ int run_selftest(FILE *out)
     }
     try_refused(&tally, refused_cases, REFUSED_CASES);
     try_refused(&tally, place_cases, PLACE_CASES);
+    try_refused(&tally, dead_cases, DEAD_CASES);
+    try_dead_arms(&tally);
     try_highest_place(&tally);
     try_printing(&tally);
     try_run_cases(&tally);

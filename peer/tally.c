@@ -1,5 +1,7 @@
 #include "tally.h"
 
+#include "image.h"
+
 enum { UNTOUCHED_WORD = 0xA5A5 };
 
 void expect(struct tally *tally, bool holds, const char *name,
@@ -35,4 +37,16 @@ bool untouched_from(const uint16_t *words, size_t first)
         if (words[i] != UNTOUCHED_WORD)
             return false;
     return true;
+}
+
+bool every_call_refuses(struct word_list rule, struct refusal refusal)
+{
+    uint16_t output[LENT_WORDS];
+
+    lend_words(output);
+    return is_refusal(check_rule(rule), refusal) &&
+           is_refusal(measure_image(rule).refusal, refusal) &&
+           is_refusal(write_image(rule, output, LENT_WORDS).refusal,
+                      refusal) &&
+           untouched_from(output, 0);
 }

@@ -8,6 +8,7 @@
 #include <stdio.h>
 
 #include "rule.h"
+#include "words.h"
 
 enum { LENT_WORDS = 128, LENT_BYTES = 64 };
 
@@ -29,5 +30,8 @@ bool is_placeless(struct refusal found, enum refusal_number number);
 /* LENT_WORDS words with a mark that no translator writes. */
 void lend_words(uint16_t *words);
 bool untouched_from(const uint16_t *words, size_t first);
+
+/* The checking, the measuring and the writing call. */
+bool every_call_refuses(struct word_list rule, struct refusal refusal);
 
 #endif

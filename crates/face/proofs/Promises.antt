@@ -20,7 +20,7 @@ use Rattle.rules.specs.Contracts.{Call}
 use Rattle.rules.proofs.Promises.{determined}
 use Rattle.face.specs.Numbers.{refusals, numberIn, placeIn, answerOf, checkedOf, refusalNumber}
 use Rattle.face.specs.Calls.{check, measure, write, pack, unpack, Formed, formed, formless}
-use Rattle.face.specs.Promises.{NumberDetermined, Returnable, counts, refuses, NumbersRange}
+use Rattle.face.specs.Promises.{NumberDetermined, base, Returnable, counts, refuses, NumbersRange}
 use Rattle.face.specs.declared.Told.{Told}
 use Rattle.face.proofs.Replies as replies
 use Rattle.face.proofs.Replies.{Fair, Any, succeeds, refused-as, fair-listed, Counted, checked-fair, measured-fair, written-counted, packing-counted, unpacking-counted}
@@ -88,7 +88,7 @@ answer-range n f h = rw (← number-again n) (go (answerOf n) f h)
     go : (a : Answer) {r : Reply ℕ} → Fair replies.Count r → replyOf a ≡ r → Returnable (number a)
     go (Count m) (succeeds {a = k} l) e = let z : m ≡ k = cc in counts {n = m} (omega arith)
     go (Count m) (refused-as l) e = never cc
-    go (Refusal d i) f e = let l = fair-listed f (sym e) in refuses (l .last) (l .near)
+    go (Refusal d i) f e = let l = fair-listed f (sym e) in refuses (l .number) (l .near)
 
 told-range : {o : Outcome ℕ} (n : ℕ) {out : List ℕ} → Counted o → told (answerOf n) out ≡ o → Returnable n
 told-range n c h = answer-range n (c .fair) (ap (λ q. q .reply) h)
@@ -99,12 +99,12 @@ check-range n f h = rw (← check-number-again n (rw h f)) (go (checkedOf n) f h
   where
     go : (a : Checked) {r : Reply (Unit {0})} → Fair Any r → checkedReply a ≡ r → Returnable (check-number a)
     go checking.Success f e = counts {n = 0} (omega arith)
-    go (checking.Refusal d i) f e = let l = fair-listed f (sym e) in refuses (l .last) (l .near)
+    go (checking.Refusal d i) f e = let l = fair-listed f (sym e) in refuses (l .number) (l .near)
 
 formed-range : {t : Told} {A : Form → Answer × List ℕ → Type 0} {out : List ℕ} {r : ℕ × List ℕ}
     → ((f : Form) → A f (answerOf (r .0), r .1) → Returnable (r .0)) → Formed t A out r → Returnable (r .0)
 formed-range k (formed f p a) = k f a
-formed-range k (formless p n o) = rw n (refuses {e = 0} {p = 0} (omega arith) (omega arith))
+formed-range k (formless p n o) = rw n (refuses {e = 0} {p = 0} (base {e = 0} (omega arith)) (omega arith))
 
 pub numbers-range : NumbersRange
 numbers-range (check ws) r h = check-range r (checked-fair ws) h

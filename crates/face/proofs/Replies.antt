@@ -17,7 +17,7 @@ use Rattle.language.specs.Read.{noPlace, Reading, accepted, refused, read}
 use Rattle.language.proofs.Clash.{never}
 use Rattle.language.specs.Calls.{Reply, Outcome, success, refusal, refuses, checked, measured, filled, written}
 use Rattle.sizes.proofs.Promises.{seven-times}
-use Rattle.trust.specs.Promises.{Placed, of-length, of-end, of-word}
+use Rattle.trust.specs.Promises.{OfWord, of-rule, of-dead-arm, Placed, of-length, of-end, of-word}
 use Rattle.trust.proofs.Accepted.{accepted-rule}
 use Rattle.trust.proofs.Placed.{places-help}
 use Rattle.files.specs.Files.{most, version, headerBytes, wordAt, packed, wordsAt, marked, packing, unpacking}
@@ -25,22 +25,31 @@ use Rattle.files.specs.declared.Form.{Form}
 use Rattle.files.specs.declared.Form.the-variants.{Rules, Images}
 use Rattle.files.proofs.Calls.{packed-length, wordsAt-length}
 use Rattle.face.specs.Numbers.{refusals}
-use Rattle.face.specs.Promises.{lastRefusal}
+use Rattle.face.specs.Promises.{lastRefusal, Number, base, dead-arm}
 
--- a number of document 01's table of refusals, and a place that a rule can have
+-- a refusal's number but 0, and a place that a rule can have
 pub record Listed (e p : ℕ) : Type 0 where
   pub first : 1 ≤ e
-  pub last : e ≤ lastRefusal
+  pub number : Number e
   pub near : p ≤ mostWords
+
+pub number-small : {e : ℕ} → Number e → e < refusals
+number-small (base l) = omega arith
+number-small dead-arm = omega arith
+
+-- a refusal that tests a word
+word-listed : {e p : ℕ} → OfWord e → p ≤ mostWords → Listed e p
+word-listed {e} (of-rule a b) l = record { first = omega arith; number = base {e = e} (omega arith); near = l }
+word-listed of-dead-arm l = record { first = omega arith; number = dead-arm; near = l }
 
 -- what a refusal's place tells shows that both are listed
 reading-listed : (ws : List ℕ) {e p : ℕ} → read ws ≡ refused e p → Listed e p
 reading-listed ws h = go (places-help ws _ _ h)
   where
     go : {e p : ℕ} → Placed ws e p → Listed e p
-    go (of-length a b) = record { first = a; last = omega arith; near = omega arith }
-    go (of-end l) = record { first = omega arith; last = omega arith; near = l }
-    go (of-word l a b i more) = record { first = omega arith; last = omega arith; near = omega arith }
+    go {e} (of-length a b) = record { first = a; number = base {e = e} (omega arith); near = omega arith }
+    go (of-end l) = record { first = omega arith; number = base {e = 3} (omega arith); near = l }
+    go (of-word l e i more) = word-listed e (omega arith)
 
 -- a success of which Q holds, or a refusal of document 01's
 pub data Fair {A : Type 0} (Q : A → Type 0) : Reply A → Type 0 where
@@ -81,7 +90,7 @@ pub record Counted (o : Outcome ℕ) : Type 0 where
   pub fair : Fair Count (o .reply)
 
 refuses-counted : (e : ℕ) (out : List ℕ) → 1 ≤ e → e ≤ lastRefusal → Counted (refuses e noPlace out)
-refuses-counted e out a b = record { fair = refused-as {p = noPlace} (record { first = a; last = b; near = omega arith }) }
+refuses-counted e out a b = record { fair = refused-as {p = noPlace} (record { first = a; number = base b; near = omega arith }) }
 
 test-counted : (b : Bool) {x y : Outcome ℕ} → (b ≡ true → Counted x) → (b ≡ false → Counted y) → Counted (cond b x y)
 test-counted true h k = h refl

@@ -24,7 +24,7 @@ use Rattle.face.specs.Calls.{Formed, formed, formless}
 use Rattle.face.specs.declared.Told.{Told}
 use Rattle.face.specs.declared.Told.the-variants.{Is, NoForm}
 use Rattle.face.proofs.Replies as replies
-use Rattle.face.proofs.Replies.{Listed, Fair, succeeds, refused-as, fair-listed, Counted, checked-fair, measured-fair, written-counted, packing-counted, unpacking-counted}
+use Rattle.face.proofs.Replies.{Listed, Fair, succeeds, refused-as, fair-listed, Counted, checked-fair, measured-fair, written-counted, packing-counted, unpacking-counted, number-small}
 
 -- the forms' numbers
 pub f-rules : {n : ℕ} → n ≡ 0 → Is Rules ≡ formOf n
@@ -84,7 +84,7 @@ module _ (ws : List ℕ) {a : Checked} {e p : ℕ} (h : checkedReply a ≡ check
   pub c-refusal : {n : ℕ} → n ≡ refusalNumber e p → checkedReply (checkedOf n) ≡ checked (read ws)
   unfolding checkedOf
   c-refusal {n} i =
-      let l : e < refusals = omega (arith, c-listed .last) in
+      let l : e < refusals = number-small (c-listed .number) in
       let z : checkedOf n ≡ a
       = rw i (simp (ne-eqb (refusalNumber e p) 0 (λ x. omega arith)) (ap₂ checking.Refusal (number-in e p l) (place-in e p l) ∙ sym k)) in
       rw z h
@@ -94,7 +94,7 @@ pub s-reply : {a : Answer} {r : Reply ℕ} → replyOf a ≡ r → Fair replies.
 unfolding replyOf
 s-reply h f = record {
   below = λ n k. go f n (sym h ∙ ap replyOf k);
-  listed = λ e p k. omega (arith, fair-listed {e = e} {p = p} f (sym h ∙ ap replyOf k) .last);
+  listed = λ e p k. number-small (fair-listed {e = e} {p = p} f (sym h ∙ ap replyOf k) .number);
   near = λ e p k. fair-listed {e = e} {p = p} f (sym h ∙ ap replyOf k) .near;
 }
   where

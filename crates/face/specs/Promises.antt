@@ -21,10 +21,15 @@ numberOf (unpack n bs out) r = r .0
 abbrev pub lastRefusal : ℕ
 lastRefusal = 12
 
--- a count, or a refusal of 0 (no form) to 12 at a place that a rule can have
+-- the refusals: 0 (no form), document 01's, and document 02's 18
+pub data Number : ℕ → Type 0 where
+  base : {e : ℕ} → e ≤ lastRefusal → Number e
+  dead-arm : Number 18
+
+-- a count, or a refusal at a place that a rule can have
 pub data Returnable : ℕ → Type 0 where
   counts : {n : ℕ} → n < refusals → Returnable n
-  refuses : {e p : ℕ} → e ≤ lastRefusal → p ≤ mostWords → Returnable (refusalNumber e p)
+  refuses : {e p : ℕ} → Number e → p ≤ mostWords → Returnable (refusalNumber e p)
 
 -- no other number is ever returned
 abbrev pub NumbersRange : Type 0

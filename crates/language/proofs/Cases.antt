@@ -13,7 +13,8 @@ use Rattle.language.specs.Sub.{sub}
 use Rattle.language.specs.Run.{atom, rev, itself, took, count}
 use Rattle.language.specs.Image.{downto, passing, image}
 use Rattle.language.specs.Kinds.{headOf}
-use Rattle.language.specs.Read.{Reading, accepted, refused, then, made, second, many, armsOf, opened, term, closed, ended, read}
+use Rattle.language.specs.Dead.{dead}
+use Rattle.language.specs.Read.{Reading, accepted, refused, then, made, second, many, unlike, armsOf, opened, term, closed, ended, read}
 use Rattle.language.specs.Calls.{Reply, success, refusal, filled, written}
 use Rattle.language.specs.Cases.{Result, Case, Said, Prints, ComesTo, Meets, worked, Each, WorkedRules}
 use Rattle.language.proofs.Eval.{Ran, eval}
@@ -122,5 +123,5 @@ tests-is [] h = tt
 tests-is (c ∷ cs) h = let p = both (test c) (tests cs) h in (test-is c (p .0), tests-is cs (p .1))
 
 pub worked-rules : WorkedRules
-unfolding tests read closed ended term then made second many armsOf opened headOf written filled words image passing downto atom size sub rev itself took eval count
+unfolding tests read closed ended term then made second many unlike dead armsOf opened headOf written filled words image passing downto atom size sub rev itself took eval count
 worked-rules = tests-is worked tt

@@ -98,29 +98,35 @@ short = 0x0605 ∷ 0x0000 ∷ []
 abbrev long : List ℕ
 long = 0x0605 ∷ 0x0001 ∷ 0x0602 ∷ 0x0000 ∷ []
 
--- the arms of the two forms: the one comes to a constructor with the tag 1, the other to the request's argument; and an arm of the short form again
+-- the arms of the two forms: the one comes to a constructor with the tag 1, the other to the request's argument
 abbrev shortArm : List ℕ
 shortArm = 0x0805 ∷ 0x0000 ∷ 0x0601 ∷ 0x0000 ∷ []
 
 abbrev longArm : List ℕ
 longArm = 0x0805 ∷ 0x0001 ∷ 0x0100 ∷ []
 
-abbrev laterArm : List ℕ
-laterArm = 0x0805 ∷ 0x0000 ∷ 0x0603 ∷ 0x0000 ∷ []
-
 -- a match of a request with two arms
 abbrev asks : List ℕ → List ℕ → List ℕ → List ℕ
 asks r a b = 0x0702 ∷ r ++ a ++ b
 
--- both requests with the arms in both orders; of two arms with tag and arity the first is taken
+-- both requests with the arms in both orders
 abbrev pub requests : List Example
 requests =
     example (asks short shortArm longArm) 30 (0x0601 ∷ 0x0000 ∷ []) 5
     ∷ example (asks long shortArm longArm) 32 (0x0602 ∷ 0x0000 ∷ []) 5
     ∷ example (asks short longArm shortArm) 30 (0x0601 ∷ 0x0000 ∷ []) 5
     ∷ example (asks long longArm shortArm) 32 (0x0602 ∷ 0x0000 ∷ []) 5
-    ∷ example (asks short shortArm laterArm) 31 (0x0601 ∷ 0x0000 ∷ []) 5
     ∷ []
+
+-- Wish 4: a match in a match's subject and one in its first arm, all three with an arm of the short form and one of the long form
+abbrev pub nested : Example
+nested =
+    example (asks (asks short (0x0805 ∷ 0x0000 ∷ short) longArm) (0x0805 ∷ 0x0000 ∷ asks short longArm shortArm) longArm) 74 (0x0601 ∷ 0x0000 ∷ []) 11
+
+-- and a match of the short request whose last arm is of the short form again, behind the arms a: the arm's second word and body are w. It is refused at
+-- that word
+abbrev again : List ℕ → List ℕ → List ℕ
+again a w = 0x0703 ∷ short ++ shortArm ++ a ++ (0x0805 ∷ w)
 
 abbrev pub imageB : List ℕ
 imageB =
@@ -130,7 +136,8 @@ imageB =
     ∷ 0x0900 ∷ 0x0201 ∷ 0x0900 ∷ []
 
 -- A to G, B's image, H to M, and N at 7 and at 8 words; then faults in the midst of a rule: a constructor's second word and one that is missing, a
--- later argument, an arm's head and its second word; then the requests
+-- later argument, an arm's head and its second word; then dead arms, behind its like and with an arm between them, and what is tested before 18 and
+-- after it; then the requests and the nested matches
 abbrev pub worked : List Case
 worked =
     runs caseA
@@ -154,6 +161,14 @@ worked =
     ∷ replies (0x0402 ∷ 0x0201 ∷ 0x0100 ∷ 0x0600 ∷ 0x0000 ∷ 0x0101 ∷ []) 100 (refusal 7 5)
     ∷ replies (0x0701 ∷ 0x0600 ∷ 0x0000 ∷ 0x0600 ∷ []) 100 (refusal 4 3)
     ∷ replies (0x0701 ∷ 0x0600 ∷ 0x0000 ∷ 0x0800 ∷ 0x0009 ∷ []) 100 (refusal 5 4)
+    ∷ replies (asks short shortArm shortArm) 100 (refusal 18 8)
+    ∷ replies (again longArm (0x0000 ∷ 0x0603 ∷ 0x0000 ∷ [])) 100 (refusal 18 11)
+    ∷ replies (again longArm []) 100 (refusal 3 11)
+    ∷ replies (again longArm (0x0009 ∷ [])) 100 (refusal 5 11)
+    ∷ replies (again longArm (0x0100 ∷ [])) 100 (refusal 5 11)
+    ∷ replies (again longArm (0x0000 ∷ 0x0A00 ∷ [])) 100 (refusal 18 11)
+    ∷ replies (again (0x0805 ∷ 0x0001 ∷ 0x0101 ∷ []) (0x0000 ∷ short)) 100 (refusal 7 9)
+    ∷ runs nested
     ∷ map runs requests
 
 -- P holds of each of them

@@ -5,6 +5,7 @@ pub mod Scope
 pub mod Limits
 pub mod Sub
 pub mod Run
+pub mod Dead
 pub mod Image
 pub mod Read
 pub mod Calls

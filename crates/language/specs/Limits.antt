@@ -5,6 +5,7 @@ use Rattle.language.specs.Term.{Lang, rules, Term, Terms, Arms, var, kva
 use Rattle.language.specs.Kinds.{mostArguments, mostArms, mostByte}
 use Rattle.language.specs.Words.{added, words}
 use Rattle.language.specs.Scope.{HasK, Scoped}
+use Rattle.language.specs.Dead.{Live}
 
 -- "a term at depth 65" is refused
 abbrev pub deepest : ℕ
@@ -55,9 +56,10 @@ unfoldable mutual
   depthᵃ none = 0
   depthᵃ (arm t n b ps) = max (depth b) (depthᵃ ps)
 
--- the terms that rules stand for: "a closed mini-ML program" within the limits
+-- the terms that rules stand for: "a closed mini-ML program" within the limits, without dead arms
 pub record Rule (t : Term) : Type 0 where
   pub closed : Scoped rules 0 0 t
   pub ranged : Ranged rules t
   pub shallow : depth t ≤ deepest
   pub short : length (words rules t) ≤ mostWords
+  pub live : Live t

@@ -1,9 +1,9 @@
 -- Reading a rule: document 01, "Checks in order". "The words are read from first to last, and the first fault met is the reply."
 -- A place is the index of a word. Document 02, Wish 1: "Refusals 3 to 8 shall carry the place of the word tested, counted from 0; 3 carries the
--- number of words given. All other refusals carry place 0."
+-- number of words given. All other refusals carry place 0."; and Wish 4: "18, with its place".
 use Prim.Native.Nat.{ℕ, zero, suc, _+_, _%_}
 use mathlib.Core.Bool.{cond}
-use mathlib.Core.List.{List}
+use mathlib.Core.List.{List, [], _∷_, _++_}
 use lib.Dec.{ltb, leb, eqb}
 use lib.ListN.{length, getD}
 use Rattle.language.specs.declared.Parts.{Parts}
@@ -14,6 +14,7 @@ use Rattle.language.specs.declared.Head.the-variants.{Refused, Opens}
 use Rattle.language.specs.Term.{Term, Terms, Arms, var, fun, call, bind, con, cases, nil, cons, none, arm}
 use Rattle.language.specs.Kinds.{mostArguments, atTerm, atArm, headOf}
 use Rattle.language.specs.Limits.{deepest, mostWords}
+use Rattle.language.specs.Dead.{dead}
 
 -- "All other refusals carry place 0."
 abbrev pub noPlace : ℕ
@@ -52,12 +53,18 @@ unfoldable pub many : (ℕ → Got Term) → ℕ → ℕ → Got Terms
 many p zero at = found nil at
 many p (suc k) at = then (p at) (λ t to. made (cons t) (many p k to))
 
--- k arms one after the other, under n source variables; p reads a body under so many. "At an arm's head: 3, 4, 5."
-unfoldable pub armsOf : List ℕ → (ℕ → ℕ → Got Term) → ℕ → ℕ → ℕ → Got Arms
-armsOf s p n zero at = found none at
-armsOf s p n (suc k) at =
-    word s at (λ w. headed (headOf atArm w) at (λ r. then (second s (at + 1)) (λ m to. then (p (n + m) to) (λ b past. made
-    (arm (w % 256) m b) (armsOf s p n k past)))))
+-- the second word of an arm with the tag t, its arity; the arms before it in its match have the tags and arities `before`. Document 02, Wish 4:
+-- "18, with its place, at an arm's second word after 3 and 5, before its body"
+unfoldable pub unlike : List ℕ → List (ℕ × ℕ) → ℕ → ℕ → Got ℕ
+unlike s before t at = then (second s at) (λ m to. cond (dead t m before) (fault 18 at) (found m to))
+
+-- k arms one after the other, behind those that have the tags and arities `before`, under n source variables; p reads a body under so many. "At an
+-- arm's head: 3, 4, 5."
+unfoldable pub armsOf : List ℕ → (ℕ → ℕ → Got Term) → List (ℕ × ℕ) → ℕ → ℕ → ℕ → Got Arms
+armsOf s p before n zero at = found none at
+armsOf s p before n (suc k) at =
+    word s at (λ w. headed (headOf atArm w) at (λ r. then (unlike s before (w % 256) (at + 1)) (λ m to. then (p (n + m) to) (λ b past. made
+    (arm (w % 256) m b) (armsOf s p (before ++ ((w % 256, m) ∷ [])) n k past)))))
 
 -- the term whose head, at a place, has the low byte a and these parts, and whose body has o source variables besides its arguments; it
 -- stands under n source variables, and p reads a part under so many. 7: "variable index not below the number of source variables bound there".
@@ -68,7 +75,7 @@ opened s p n at a o Body = made (fun o a) (p (n + a + o) (at + 1))
 opened s p n at a o FunctionAndArguments = then (p n (at + 1)) (λ f to. made (call f) (many (p n) a to))
 opened s p n at a o BoundAndBody = then (p n (at + 1)) (λ m to. made (bind m) (p (n + o) to))
 opened s p n at a o CountAndArguments = then (second s (at + 1)) (λ m to. made (con a) (many (p n) m to))
-opened s p n at a o SubjectAndArms = then (p n (at + 1)) (λ m to. made (cases m) (armsOf s p n a to))
+opened s p n at a o SubjectAndArms = then (p n (at + 1)) (λ m to. made (cases m) (armsOf s p [] n a to))
 opened s p n at a o ArityAndBody = fault 4 at
 
 -- a term at a place, with d levels of depth left, under n source variables. "At a term's head the tests are 3, 6, 4, 5, 7."

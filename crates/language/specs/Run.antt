@@ -49,11 +49,15 @@ unfoldable pub itself : ℕ → Term → Terms
 itself zero f = nil
 itself (suc o) f = cons f (itself o f)
 
--- the body of the arm that a constructor value with the tag t and n arguments takes. Document 02, Wish 3: "the first arm that has both the tag
--- and the arity", "for rules and images alike"; where no arm has both, there is no value
+-- of the tag t and n arguments, and an arm's tag and arity: Document 02, Wish 3: "both the tag and the arity"
+abbrev pub both : ℕ → ℕ → ℕ → ℕ → Bool
+both t n t' n' = eqb t t' && eqb n n'
+
+-- the body of the arm that a constructor value with the tag t and n arguments takes: "the first arm that has both the tag and the arity", "for
+-- rules and images alike"; where no arm has both, there is no value
 unfoldable pub took : ℕ → ℕ → Arms → Option Term
 took t n none = nothing
-took t n (arm t' n' b ps) = cond (eqb t t' && eqb n n') (some b) (took t n ps)
+took t n (arm t' n' b ps) = cond (both t n t' n') (some b) (took t n ps)
 
 -- `Run L t v`: by the rules of L the closed term t comes to the value v.
 -- taken: "A value comes to itself." built: "A constructor that is not an atom: each argument comes to a value; the result is the

@@ -41,6 +41,8 @@ pub const WRONG_VERSION: u8 = 11;
 
 pub const WRONG_LENGTH: u8 = 12;
 
+pub const DEAD_ARM: u8 = 18;
+
 // The place of a refusal that tests no word.
 pub const NO_PLACE: usize = 0;
 

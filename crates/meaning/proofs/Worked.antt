@@ -10,7 +10,8 @@ use Rattle.language.specs.Sub.{sub}
 use Rattle.language.specs.Run.{atom, rev, itself, took, Counts, count}
 use Rattle.language.specs.Image.{downto, passing, carried, image}
 use Rattle.language.specs.Kinds.{headOf}
-use Rattle.language.specs.Read.{Reading, accepted, refused, then, made, second, many, armsOf, opened, term, closed, ended, read}
+use Rattle.language.specs.Dead.{dead}
+use Rattle.language.specs.Read.{Reading, accepted, refused, then, made, second, many, unlike, armsOf, opened, term, closed, ended, read}
 use Rattle.language.proofs.Eval.{Ran, eval}
 use Rattle.meaning.specs.Promises.{applications}
 use Rattle.language.specs.Cases.{Each}
@@ -69,5 +70,5 @@ all-computed [] h = tt
 all-computed (x ∷ xs) h = (computed x (read (x .of .rule)) refl (h .0), all-computed xs (h .1))
 
 pub worked-runs : WorkedRuns
-unfolding read closed ended term then made second many armsOf opened headOf words image passing downto atom size sub rev itself took eval count
+unfolding read closed ended term then made second many unlike dead armsOf opened headOf words image passing downto atom size sub rev itself took eval count
 worked-runs = all-computed ran (refl, (refl, (refl, (refl, (refl, (refl, (refl, (refl, (refl, (refl, (refl, (refl, tt))))))))))))

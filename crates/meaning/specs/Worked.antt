@@ -6,7 +6,7 @@ use Rattle.language.specs.Words.{words}
 use Rattle.language.specs.Run.{Counts, uses, Run, count}
 use Rattle.language.specs.Image.{image, carried}
 use Rattle.language.specs.Read.{read, accepted}
-use Rattle.language.specs.Cases.{Each, Example, caseA, caseB, caseC, caseD, caseE, caseF, caseG, requests}
+use Rattle.language.specs.Cases.{Each, Example, caseA, caseB, caseC, caseD, caseE, caseF, caseG, nested, requests}
 use Rattle.meaning.specs.Promises.{applications, Comes}
 
 -- an example, and how often its run uses each rule
@@ -27,6 +27,7 @@ ran =
     ∷ row caseE (uses 3 1 0 0 1)
     ∷ row caseF (uses 7 2 0 2 0)
     ∷ row caseG (uses 1 0 0 0 0)
+    ∷ row nested (uses 4 0 0 3 0)
     ∷ map (λ x. row x (uses 2 0 0 1 0)) requests
 
 -- the rule has a run with the example's value and the row's counts; its image comes to the value's carried form by the example's applications,

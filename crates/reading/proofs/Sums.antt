@@ -1,23 +1,25 @@
--- What the code counts is small, so that its sums do not wrap: a row's body has one source variable at most besides its arguments, and the words
--- of what was read are at most seven times the words that it stands in.
+-- What the code counts is small, so that its sums do not wrap: a row's body has one source variable at most besides its arguments, a match has few
+-- arms, and the words of what was read are at most seven times the words that it stands in.
 -- Assumes nothing.
-use Prim.Native.Nat.{ℕ, _*_, _≤_}
+use Prim.Native.Nat.{ℕ, _*_, _%_, _≤_}
 use mathlib.Core.Path.{_≡_, sym, ap, _∙_}
 use mathlib.Core.Bool.{Bool}
 use mathlib.Core.List.{List}
 use native.Mathlib.Omega.{arith}
 use lib.ListN.{length, drop, length-append, length-drop}
 use Rattle.language.specs.Term.{Terms}
-use Rattle.language.specs.Kinds.{atTerm, headOf}
+use Rattle.language.specs.Kinds.{mostArms, atTerm, headOf}
 use Rattle.language.specs.Places.{Held}
 use Rattle.language.specs.Read.{Got, many, armsOf, term}
+use Rattle.language.specs.declared.Parts.the-variants.{SubjectAndArms}
 use Rattle.language.specs.declared.Row.{Row}
 use Rattle.language.specs.declared.Head.{Head}
 use Rattle.language.specs.declared.Head.the-variants.{Opens}
+use Rattle.language.proofs.Clash.{never}
 use Rattle.sizes.proofs.Promises.{bound, bounds, boundᵃ, leasts}
 use Rattle.trust.proofs.Rows.{Opened, o-var, o-fun, o-rec, o-call, o-let, o-con, o-match, o-arm, passed}
 use Rattle.trust.proofs.Accepted.{Holds, held, left, Goodᵗ, term-good, many-good, arms-good}
-use Rattle.reading.specs.Steps.{aWord, small, chainLength, stepOf, termStep, termsStep, armsStep, wordsOf, Roomy}
+use Rattle.reading.specs.Steps.{aWord, small, chainLength, stepOf, termStep, termsStep, armsStep, FewArms, wordsOf, Roomy}
 use Rattle.reading.specs.declared.Step.{Step}
 use Rattle.reading.specs.declared.Step.the-variants.{Next}
 
@@ -34,6 +36,20 @@ one-bind o-arm = omega arith
 
 pub row-binds : (w : ℕ) {r : Head} {f : Row} → r ≡ headOf atTerm w → r ≡ Opens f → f .binds ≤ 1
 row-binds w e i = one-bind (passed atTerm w _ (omega arith) (sym e ∙ i) .opened)
+
+-- a match has so many arms at most
+few-arms : {k a : ℕ} {f : Row} → Opened k f → f .parts ≡ SubjectAndArms → a ≤ f .high → a ≤ mostArms
+few-arms o-var e l = never cc
+few-arms o-fun e l = never cc
+few-arms o-rec e l = never cc
+few-arms o-call e l = never cc
+few-arms o-let e l = never cc
+few-arms o-con e l = never cc
+few-arms o-match e l = l
+few-arms o-arm e l = never cc
+
+pub row-arms : (w : ℕ) {r : Head} {f : Row} → r ≡ headOf atTerm w → r ≡ Opens f → FewArms (f .parts) (w % 256)
+row-arms w e i = let p = passed atTerm w _ (omega arith) (sym e ∙ i) in record { few = λ q. few-arms (p .opened) q (p .high) }
 
 -- words that stand in a table are no more than the table's
 short : {s ws : List ℕ} {at to : ℕ} → Held s ws at to → length ws ≤ length s
@@ -55,8 +71,8 @@ module _ (s : List ℕ) (d n at : ℕ) where
     unfolding chainLength
     terms-small e = counts _ _ _ (many-good s d (term s d) (term-good s d) n k at) e (λ ts to q. omega (arith, bounds ts, short (q .held)))
 
-    pub arms-small : {r : Step} → r ≡ armsStep (armsOf s (term s d) n k at) → wordsOf r ≤ 7 * length s
-    arms-small e = counts _ _ _ (arms-good s d (term s d) (term-good s d) n k at) e (λ ps to q. omega (arith, boundᵃ ps, short (q .held)))
+    pub arms-small : (before : List (ℕ × ℕ)) {r : Step} → r ≡ armsStep (armsOf s (term s d) before n k at) → wordsOf r ≤ 7 * length s
+    arms-small before e = counts _ _ _ (arms-good s d (term s d) (term-good s d) before n k at) e (λ ps to q. omega (arith, boundᵃ ps, short (q .held)))
 
     -- there are six words for each of the terms
     pub terms-roomy : {r : Step} → r ≡ termsStep (many (term s d n) k at) → Roomy k r
@@ -76,11 +92,11 @@ module _ (s : List ℕ) (d n at : ℕ) {r : Step} (few : length s ≤ aWord) whe
     pub s-terms : r ≡ termsStep (many (term s d n) k at) → wordsOf r ≤ small
     s-terms e = omega (arith, terms-small s d n at k e)
 
-    pub s-arms : r ≡ armsStep (armsOf s (term s d) n k at) → wordsOf r ≤ small
-    s-arms e = omega (arith, arms-small s d n at k e)
+    pub s-arms : (before : List (ℕ × ℕ)) → r ≡ armsStep (armsOf s (term s d) before n k at) → wordsOf r ≤ small
+    s-arms before e = omega (arith, arms-small s d n at k before e)
 
 pub s-part : {r : Step} {to c : ℕ} {b : Bool} → r ≡ Next to b c → wordsOf r ≤ small → c ≤ small
 unfolding wordsOf
 s-part e h = omega (arith, ap wordsOf e)
 
-pub ruleset sums = (row-binds, terms-roomy, s-term, s-terms, s-arms, s-part)
+pub ruleset sums = (row-binds, row-arms, terms-roomy, s-term, s-terms, s-arms, s-part)

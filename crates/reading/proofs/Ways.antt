@@ -1,22 +1,23 @@
 -- One law for each way out of the reading functions: what was tested and called on the way, in the code's own form, and the answer that is then
 -- right. `search ways` finds a law's premises in what is known where the code returns. A law's first letter says of which function: g grown, j joined,
--- b built, c second_at, h arity_at, t term_at, p opened_at, l terms_at, a arms_at.
+-- b built, c second_at, u unlike_at, h arity_at, t term_at, p opened_at, l terms_at, a arms_at.
 -- Assumes nothing.
-use Prim.Native.Nat.{ℕ, zero, suc, _+_, _-_, _*_, _%_, _<_, _≤_}
+use Prim.Native.Nat.{ℕ, zero, suc, _+_, _-_, _*_, _/_, _%_, _<_, _≤_}
 use mathlib.Core.Path.{_≡_, refl, _∙_}
 use mathlib.Core.Bool.{Bool, true, false, cond}
-use mathlib.Core.List.{List}
+use mathlib.Core.List.{List, [], _∷_, _++_}
 use mathlib.Core.Logic.{_⊎_, inl, inr, ⊎-elim}
 use native.Mathlib.Omega.{arith}
 use native.Mathlib.Numerals.{sub-one}
 use lib.Dec.{ltb}
-use lib.ListN.{length, getD}
+use lib.ListN.{length, getD, take, set}
 use borrow.Author.Needs.{needs}
-use borrow.Author.Tests.{lt-ltb, le-ltb, lt-leb, le-leb}
+use borrow.Author.Tests.{lt-ltb, le-ltb, lt-leb, le-leb, ltb-true}
 use Rattle.language.specs.Term.{Term, Arms, fun, call, bind, cases, cons, arm, size}
 use Rattle.language.specs.Run.{atom}
-use Rattle.language.specs.Kinds.{mostArguments, atTerm, atArm, headOf}
-use Rattle.language.specs.Read.{Got, found, fault, then, made, word, headed, second, many, armsOf, opened, term}
+use Rattle.language.specs.Kinds.{mostArguments, mostArms, atTerm, atArm, headOf}
+use Rattle.language.specs.Dead.{dead}
+use Rattle.language.specs.Read.{Got, found, fault, then, made, word, headed, second, many, unlike, armsOf, opened, term}
 use Rattle.language.specs.declared.Parts.{Parts}
 use Rattle.language.specs.declared.Parts.the-variants.{Nothing, Body, FunctionAndArguments, BoundAndBody, CountAndArguments, SubjectAndArms, ArityAndBody}
 use Rattle.language.specs.declared.Row.{Row}
@@ -24,13 +25,15 @@ use Rattle.language.specs.declared.Head.{Head}
 use Rattle.language.specs.declared.Head.the-variants.{Refused, Opens}
 use Rattle.sizes.specs.Lengths.{passingLengths}
 use Rattle.sizes.proofs.Lengths.{of-var, of-fun, of-call, of-bind, of-cases, of-none, of-arm}
+use Rattle.trust.proofs.Accepted.{holds-found, second-good, unlike-good}
 use Rattle.reading.specs.Steps.{variableWords, functionWords, callWords, letWords, constructorWords, matchWords, armWords, chainedWords, savedWords}
-use Rattle.reading.specs.Steps.{chainLength, stepOf, termStep, termsStep, armsStep, arity, countOf, grownOf, joinedOf, builtOf}
+use Rattle.reading.specs.Steps.{chainLength, stepOf, termStep, termsStep, armsStep, FewArms, markOf, unmarked, arity, countOf, grownOf, joinedOf, builtOf}
 use Rattle.reading.specs.declared.Step.{Step}
 use Rattle.reading.specs.declared.Step.the-variants.{Next, No}
 use Rattle.reading.specs.declared.Count.{Count}
 use Rattle.reading.specs.declared.Count.the-variants.{Is, Not}
 use Rattle.reading.proofs.Sums.{sums}
+use Rattle.reading.proofs.Marks.{marked-more, l-front, l-stored, l-kept}
 use Rattle.language.proofs.Clash.{never}
 use Rattle.reading.proofs.Steps.{came, stops, goes, grows, of-cons, of-construct}
 
@@ -83,21 +86,6 @@ module _ (s : List ℕ) (at : ℕ) where
   unfolding second countOf
   c-is h k = simp (lt-ltb _ _ h, le-leb _ _ k)
 
--- an arm's two words
-module _ (s : List ℕ) (at : ℕ) where
-  pub h-none : length s ≤ at → Not 3 (length s) ≡ countOf (arity s at)
-  unfolding arity countOf
-  h-none h = simp (le-ltb _ _ h)
-
-  module _ (h : at < length s) {r : Head} (e : r ≡ headOf atArm (getD s at 0)) where
-    pub h-refused : {b : ℕ} → r ≡ Refused b → Not b at ≡ countOf (arity s at)
-    unfolding arity countOf
-    h-refused i = simp (lt-ltb _ _ h, ← e, i)
-
-    pub h-second : {f : Row} {x : Count} → r ≡ Opens f → x ≡ countOf (second s (at + 1)) → x ≡ countOf (arity s at)
-    unfolding arity
-    h-second i k = simp (lt-ltb _ _ h, ← e, i) k
-
 -- what a count says of the reading that it answers for
 is-found : (g : Got ℕ) {y : Count} {m to : ℕ} → y ≡ countOf g → y ≡ Is m to → g ≡ found m to
 unfolding countOf
@@ -108,6 +96,43 @@ is-fault : (g : Got ℕ) {y : Count} {e p : ℕ} → y ≡ countOf g → y ≡ N
 unfolding countOf
 is-fault (found n i) h k = never cc
 is-fault (fault e p) h k = cc
+
+-- an arm's second word
+module _ (s : List ℕ) (at w : ℕ) (before : List (ℕ × ℕ)) {y : Count} (e : y ≡ countOf (second s at)) where
+  pub u-not : {b p : ℕ} → y ≡ Not b p → Not b p ≡ countOf (unlike s before (w % 256) at)
+  unfolding unlike then countOf
+  u-not i = rw (is-fault (second s at) e i)
+
+  module _ {m to : ℕ} (i : y ≡ Is m to) {x : ℕ} (q : x ≡ markOf w m) {b : Bool} (d : b ≡ dead (x / 256) (x % 256) before) where
+    tested : b ≡ dead (w % 256) m before
+    tested =
+        let l = holds-found (second-good s at) (is-found _ e i) .most in
+        let t : x / 256 ≡ w % 256 = omega arith in
+        let n : x % 256 ≡ m = omega arith in
+        rw (← t, ← n) d
+
+    pub u-dead : b ≡ true → Not 18 at ≡ countOf (unlike s before (w % 256) at)
+    unfolding unlike then countOf
+    u-dead h = rw (is-found (second s at) e i, ← tested, h)
+
+    pub u-is : b ≡ false → Is m to ≡ countOf (unlike s before (w % 256) at)
+    unfolding unlike then countOf
+    u-is h = rw (is-found (second s at) e i, ← tested, h)
+
+-- an arm's two words
+module _ (s : List ℕ) (before : List (ℕ × ℕ)) (at : ℕ) where
+  pub h-none : length s ≤ at → Not 3 (length s) ≡ countOf (arity s before at)
+  unfolding arity countOf
+  h-none h = simp (le-ltb _ _ h)
+
+  module _ (h : at < length s) {r : Head} (e : r ≡ headOf atArm (getD s at 0)) where
+    pub h-refused : {b : ℕ} → r ≡ Refused b → Not b at ≡ countOf (arity s before at)
+    unfolding arity countOf
+    h-refused i = simp (lt-ltb _ _ h, ← e, i)
+
+    pub h-second : {f : Row} {x : Count} → r ≡ Opens f → x ≡ countOf (unlike s before (getD s at 0 % 256) (at + 1)) → x ≡ countOf (arity s before at)
+    unfolding arity
+    h-second i k = simp (lt-ltb _ _ h, ← e, i) k
 
 -- a term, up to its head
 pub t-none : (s : List ℕ) (d n at : ℕ) → length s ≤ at → No 3 (length s) ≡ termStep (term s d n at)
@@ -171,7 +196,7 @@ module _ (s : List ℕ) (p : ℕ → ℕ → Got Term) (n at a o : ℕ) {f : Par
   p-let q k l m u = rw q (goes _ _ _ _ _ _ k l (λ t i w. grows _ _ _ _ (bind t) _ _ _ _ m (λ b. refl) (λ b. omega (arith, of-bind t b)) u))
 
   pub p-match : f ≡ SubjectAndArms → {x y v : Step} {to c : ℕ} {b : Bool} → y ≡ termStep (p n (at + 1)) → y ≡ Next to b c
-      → v ≡ armsStep (armsOf s p n a to)
+      → v ≡ armsStep (armsOf s p [] n a to)
       → x ≡ grownOf false c matchWords v → x ≡ termStep (opened s p n at a o f)
   unfolding opened atom
   p-match q k l m u = rw q (goes _ _ _ _ _ _ k l (λ t i w. grows _ _ _ _ (cases t) _ _ _ _ m (λ ps. refl) (λ ps. omega (arith, of-cases t ps)) u))
@@ -207,43 +232,75 @@ module _ (p : ℕ → Got Term) (k at : ℕ) where
     l-more e i m u = came _ _ (many-more p k at z) (goes _ _ _ _ _ _ e i (λ t o w. of-cons t _ o w m u))
 
 -- arms
-module _ (s : List ℕ) (at : ℕ) (f : ℕ → ℕ → Got Arms) where
-  arity-then : word s at (λ w. headed (headOf atArm w) at (λ r. then (second s (at + 1)) f)) ≡ then (arity s at) f
+module _ (s : List ℕ) (before : List (ℕ × ℕ)) (at : ℕ) (f : ℕ → ℕ → Got Arms) where
+  arity-then : word s at (λ w. headed (headOf atArm w) at (λ r. then (unlike s before (w % 256) (at + 1)) f)) ≡ then (arity s before at) f
   unfolding arity then
   arity-then = go (ltb at (length s)) (headOf atArm (getD s at 0))
     where
-      go : (b : Bool) (h : Head) → cond b (headed h at (λ r. then (second s (at + 1)) f)) (fault 3 (length s))
-          ≡ then (cond b (headed h at (λ r. second s (at + 1))) (fault 3 (length s))) f
+      second-word : Got ℕ
+      second-word = unlike s before (getD s at 0 % 256) (at + 1)
+
+      go : (b : Bool) (h : Head) → cond b (headed h at (λ r. then second-word f)) (fault 3 (length s))
+          ≡ then (cond b (headed h at (λ r. second-word)) (fault 3 (length s))) f
       go true (Refused e) = refl
       go true (Opens r) = refl
       go false h = refl
 
-armed : (s : List ℕ) (p : ℕ → ℕ → Got Term) (n k at : ℕ) → (k ≡ 0 → ⊥)
-    → armsOf s p n k at ≡ then (arity s at) (λ m to. then (p (n + m) to) (λ b past. made (arm (getD s at 0 % 256) m b) (armsOf s p n (k - 1) past)))
+armed : (s : List ℕ) (p : ℕ → ℕ → Got Term) (before : List (ℕ × ℕ)) (n k at : ℕ) → (k ≡ 0 → ⊥)
+    → armsOf s p before n k at ≡ then (arity s before at) (λ m to. then (p (n + m) to) (λ b past. made (arm (getD s at 0 % 256) m b)
+    (armsOf s p (before ++ ((getD s at 0 % 256, m) ∷ [])) n (k - 1) past)))
 unfolding armsOf
-armed s p n zero at z = absurd (z refl)
-armed s p n (suc k) at z = simp sub-one (arity-then s at _)
+armed s p before n zero at z = absurd (z refl)
+armed s p before n (suc k) at z = simp sub-one (arity-then s before at _)
 
-module _ (s : List ℕ) (p : ℕ → ℕ → Got Term) (n k at : ℕ) where
-  pub a-end : k ≡ 0 → Next at false 0 ≡ armsStep (armsOf s p n k at)
+-- what an arm's two words tell where they are read
+arity-known : (s : List ℕ) (before : List (ℕ × ℕ)) (at : ℕ) {m to : ℕ} → arity s before at ≡ found m to → (at < length s) × (m ≤ mostArguments)
+unfolding arity
+arity-known s before at {m} {to} e = go (ltb at (length s)) (ltb-true at (length s)) (headOf atArm (getD s at 0)) e
+  where
+    go : (b : Bool) → (b ≡ true → at < length s) → (h : Head)
+        → cond b (headed h at (λ r. unlike s before (getD s at 0 % 256) (at + 1))) (fault 3 (length s)) ≡ found m to → (at < length s) × (m ≤ mostArguments)
+    go true l (Refused b) e = never cc
+    go true l (Opens r) e = (l refl, holds-found (unlike-good s before (getD s at 0 % 256) (at + 1)) e .second .most)
+    go false l h e = never cc
+
+module _ (s : List ℕ) (before : List (ℕ × ℕ)) (at : ℕ) {y : Count} (c : y ≡ countOf (arity s before at)) {m i : ℕ} (l : y ≡ Is m i) where
+  pub a-there : at < length s
+  a-there = arity-known s before at (is-found _ c l) .0
+
+module _ (s : List ℕ) (p : ℕ → ℕ → Got Term) (ms : List ℕ) (j n k at : ℕ) where
+  pub a-end : k ≡ 0 → Next at false 0 ≡ armsStep (armsOf s p (unmarked (take j ms)) n k at)
   unfolding armsOf stepOf
   a-end z = simp (z, of-none)
 
-  module _ (z : k ≡ 0 → ⊥) {y : Count} (c : y ≡ countOf (arity s at)) where
-    pub a-refused : {b i : ℕ} → y ≡ Not b i → No b i ≡ armsStep (armsOf s p n k at)
+  module _ (z : k ≡ 0 → ⊥) {y : Count} (c : y ≡ countOf (arity s (unmarked (take j ms)) at)) where
+    pub a-refused : {b i : ℕ} → y ≡ Not b i → No b i ≡ armsStep (armsOf s p (unmarked (take j ms)) n k at)
     unfolding stepOf then
-    a-refused l = came _ _ (armed s p n k at z) (rw (is-fault _ c l))
+    a-refused l = came _ _ (armed s p (unmarked (take j ms)) n k at z) (rw (is-fault _ c l))
 
     module _ {m i : ℕ} (l : y ≡ Is m i) {v : Step} (q : v ≡ termStep (p (n + m) i)) where
-      pub a-stop : {b i : ℕ} → v ≡ No b i → No b i ≡ armsStep (armsOf s p n k at)
+      pub a-stop : {b i : ℕ} → v ≡ No b i → No b i ≡ armsStep (armsOf s p (unmarked (take j ms)) n k at)
       unfolding then
-      a-stop o = came _ _ (armed s p n k at z) (rw (is-found _ c l) (stops _ _ _ _ _ _ q o))
+      a-stop o = came _ _ (armed s p (unmarked (take j ms)) n k at z) (rw (is-found _ c l) (stops _ _ _ _ _ _ q o))
 
-      pub a-more : {x g : Step} {to c : ℕ} {b : Bool} → v ≡ Next to b c → g ≡ armsStep (armsOf s p n (k - 1) to) → x ≡ grownOf false c armWords g
-          → x ≡ armsStep (armsOf s p n k at)
+      pub a-more : {d : ℕ} → d ≡ markOf (getD s at 0) m → j + k ≤ length ms → {x g : Step} {to c : ℕ} {b : Bool} → v ≡ Next to b c
+          → g ≡ armsStep (armsOf s p (unmarked (take (j + 1) (set ms j d))) n (k - 1) to) → x ≡ grownOf false c armWords g
+          → x ≡ armsStep (armsOf s p (unmarked (take j ms)) n k at)
       unfolding then
-      a-more o g u = came _ _ (armed s p n k at z) (rw (is-found _ c l) (goes _ _ _ _ _ _ q o
-          (λ t o w. grows _ _ _ _ (arm (getD s at 0 % 256) m t) _ _ _ _ g (λ ps. refl) (λ ps. omega (arith, of-arm (getD s at 0 % 256) m t ps)) u)))
+      a-more d room o g u =
+          let most = arity-known s (unmarked (take j ms)) at (is-found _ c l) .1 in
+          let g' = rw (d, marked-more ms j (getD s at 0) m (omega arith) (omega arith)) at g in
+          came _ _ (armed s p (unmarked (take j ms)) n k at z) (rw (is-found _ c l) (goes _ _ _ _ _ _ q o
+          (λ t o w. grows _ _ _ _ (arm (getD s at 0 % 256) m t) _ _ _ _ g' (λ ps. refl) (λ ps. omega (arith, of-arm (getD s at 0 % 256) m t ps)) u)))
+
+-- all the arms of a match
+pub p-few : {f : Parts} {a : ℕ} → FewArms f a → f ≡ SubjectAndArms → a ≤ mostArms
+p-few h e = h .few e
+
+pub a-all : (s : List ℕ) (p : ℕ → ℕ → Got Term) (ms : List ℕ) (n k at : ℕ) {x : Step} → x ≡ armsStep (armsOf s p (unmarked (take 0 ms)) n k at)
+    → x ≡ armsStep (armsOf s p [] n k at)
+unfolding unmarked
+a-all s p ms n k at e = e
 
 pub ruleset ways = (
   g-no,
@@ -260,6 +317,9 @@ pub ruleset ways = (
   h-none,
   h-refused,
   h-second,
+  u-not,
+  u-dead,
+  u-is,
   t-none,
   t-deep,
   t-refused,
@@ -271,6 +331,7 @@ pub ruleset ways = (
   p-stop,
   p-let,
   p-match,
+  p-few,
   p-uncounted,
   p-call,
   p-con,
@@ -281,6 +342,12 @@ pub ruleset ways = (
   a-refused,
   a-stop,
   a-more,
+  a-there,
+  a-all,
+  l-front,
+  l-stored,
+  l-kept,
+  refl,
   inl,
   inr,
   sums,

@@ -4,12 +4,14 @@ use language::Head;
 use language::Parts;
 use language::Row;
 ghost use mathlib.Core.Path.{_≡_};
-ghost use Prim.Native.Nat.{_+_, _*_, _≤_, _<_};
-ghost use lib.ListN.{length};
-ghost use Rattle.language.specs.Kinds.{mostByte};
-ghost use Rattle.language.specs.Read.{second, many, armsOf, opened, term, closed, read};
+ghost use Prim.Native.Nat.{_+_, _*_, _/_, _%_, _≤_, _<_};
+ghost use mathlib.Core.List.{[]};
+ghost use lib.ListN.{length, take};
+ghost use Rattle.language.specs.Kinds.{mostArms, mostByte};
+ghost use Rattle.language.specs.Dead.{dead};
+ghost use Rattle.language.specs.Read.{second, many, unlike, armsOf, opened, term, closed, read};
 ghost use Rattle.language.specs.Calls.{replyOf, checked, measured};
-ghost use Rattle.reading.specs.Steps.{aWord, small, termStep, termsStep, armsStep, arity, countOf, wordsOf, grownOf, joinedOf, builtOf, Roomy};
+ghost use Rattle.reading.specs.Steps.{aWord, small, termStep, termsStep, armsStep, FewArms, markOf, unmarked, arity, countOf, wordsOf, grownOf, joinedOf, builtOf, Roomy};
 ghost use Rattle.reading.specs.Answers.{checkedReply};
 
 // The words of a variable's passing form, and those that each other form has besides its parts' passing forms and chains.
@@ -116,16 +118,54 @@ fn second_at(s: &[u16], at: usize) -> Count
     Count::Is(m, at + 1)
 }
 
+// An arm's mark: the low bytes of its two words, its tag and its arity, in one word.
+fn mark(w: u16, m: u16) -> u16
+    ensures { λ r. ⌜ r ≡ markOf w m ⌝ }
+{
+    w % LOW_BYTE * LOW_BYTE + m % LOW_BYTE
+}
+
+// Whether one of the marks is this one.
+fn is_among(x: u16, marks: &[u16]) -> bool
+    ensures { λ r. ⌜ r ≡ dead (x / 256) (x % 256) (unmarked (now (marks .entry))) ⌝ }
+{
+    let mut i = 0;
+    while i < marks.len() {
+        if marks[i] == x {
+            return true;
+        }
+        i += 1;
+    }
+    false
+}
+
+// The second word of an arm with the head w, its arity; the arms before it in its match have these marks.
+fn unlike_at(s: &[u16], at: usize, w: u16, marks: &[u16]) -> Count
+    ensures { λ r. ⌜ r ≡ countOf (unlike (now (s .entry)) (unmarked (now (marks .entry))) (w % 256) at) ⌝ }
+{
+    match second_at(s, at) {
+        Count::Not(e, p) => Count::Not(e, p),
+        Count::Is(m, to) => {
+            if is_among(mark(w, m), marks) {
+                Count::Not(language::DEAD_ARM, at)
+            } else {
+                Count::Is(m, to)
+            }
+        }
+    }
+}
+
 // An arm's two words: its arity.
-fn arity_at(s: &[u16], at: usize) -> Count
-    ensures { λ r. ⌜ r ≡ countOf (arity (now (s .entry)) at) ⌝ }
+fn arity_at(s: &[u16], at: usize, marks: &[u16]) -> Count
+    ensures { λ r. ⌜ r ≡ countOf (arity (now (s .entry)) (unmarked (now (marks .entry))) at) ⌝ }
 {
     if s.len() <= at {
         return Count::Not(language::NONE_LEFT, s.len());
     }
-    match language::look(language::AT_ARM, s[at]) {
+    let w = s[at];
+    match language::look(language::AT_ARM, w) {
         Head::Refused(e) => Count::Not(e, at),
-        Head::Opens(_) => second_at(s, at + 1),
+        Head::Opens(_) => unlike_at(s, at + 1, w, marks),
     }
 }
 
@@ -149,7 +189,8 @@ fn term_at(s: &[u16], at: usize, left: usize, bound: usize) -> Step
 
 // The term whose head, at this place, has this low byte and this row; its parts have so many levels of depth left.
 fn opened_at(s: &[u16], at: usize, left: usize, bound: usize, low: usize, row: Row) -> Step
-    requires { ⌜ (length (now s) ≤ aWord) × (bound + aWord * (left + 1) ≤ small) × (at < length (now s)) × (low ≤ mostByte) × (row .binds ≤ 1) ⌝ }
+    requires { ⌜ (length (now s) ≤ aWord) × (bound + aWord * (left + 1) ≤ small) × (at < length (now s)) × (low ≤ mostByte) × (row .binds ≤ 1)
+        × FewArms (row .parts) low ⌝ }
     ensures { λ r. ⌜ r ≡ termStep (opened (now (s .entry)) (term (now (s .entry)) left) bound at low (row .binds) (row .parts)) ⌝ }
 {
     let next = at + 1;
@@ -181,7 +222,12 @@ fn opened_at(s: &[u16], at: usize, left: usize, bound: usize, low: usize, row: R
         },
         Parts::SubjectAndArms => match term_at(s, next, left, bound) {
             Step::No(e, p) => Step::No(e, p),
-            Step::Next(to, _, z) => grown(arms_at(s, to, left, bound, low), false, z, MATCH_WORDS),
+            Step::Next(to, _, z) => grown(
+                all_arms_at(s, to, left, bound, low),
+                false,
+                z,
+                MATCH_WORDS,
+            ),
         },
         Parts::ArityAndBody => Step::No(language::WRONG_KIND, at),
     }
@@ -201,25 +247,46 @@ fn terms_at(s: &[u16], at: usize, left: usize, bound: usize, count: usize) -> St
     }
 }
 
-// So many arms, one after the other.
-fn arms_at(s: &[u16], at: usize, left: usize, bound: usize, count: usize) -> Step
-    requires { ⌜ (length (now s) ≤ aWord) × (bound + aWord * (left + 1) ≤ small) × (count < aWord) ⌝ }
-    ensures { λ r. ⌜ r ≡ armsStep (armsOf (now (s .entry)) (term (now (s .entry)) left) bound count at) ⌝ }
+// The arms of a match, so many.
+fn all_arms_at(s: &[u16], at: usize, left: usize, bound: usize, count: usize) -> Step
+    requires { ⌜ (length (now s) ≤ aWord) × (bound + aWord * (left + 1) ≤ small) × (count ≤ mostArms) ⌝ }
+    ensures { λ r. ⌜ r ≡ armsStep (armsOf (now (s .entry)) (term (now (s .entry)) left) [] bound count at) ⌝ }
+{
+    let mut marks = [0u16; language::MOST_ARMS as usize];
+    arms_at(&mut marks, 0, s, at, left, bound, count)
+}
+
+// So many arms, one after the other, behind so many of their match, whose marks stand at the front.
+fn arms_at(
+    marks: &mut [u16],
+    before: usize,
+    s: &[u16],
+    at: usize,
+    left: usize,
+    bound: usize,
+    count: usize,
+) -> Step
+    requires { ⌜ (before + count ≤ length (now marks)) × (length (now s) ≤ aWord) × (bound + aWord * (left + 1) ≤ small) ⌝ }
+    ensures { λ r. ⌜ (r ≡ armsStep (armsOf (now (s .entry)) (term (now (s .entry)) left) (unmarked (take before (now (marks .entry)))) bound count at))
+        × (length (now (marks .exit)) ≡ length (now (marks .entry))) ⌝ }
 {
     if count == 0 {
         return Step::Next(at, false, 0);
     }
-    match arity_at(s, at) {
+    match arity_at(s, at, &marks[..before]) {
         Count::Not(e, p) => Step::No(e, p),
-        Count::Is(m, body) => match term_at(s, body, left, bound + m as usize) {
-            Step::No(e, p) => Step::No(e, p),
-            Step::Next(to, _, z) => grown(
-                arms_at(s, to, left, bound, count - 1),
-                false,
-                z,
-                ARM_WORDS,
-            ),
-        },
+        Count::Is(m, body) => {
+            marks[before] = mark(s[at], m);
+            match term_at(s, body, left, bound + m as usize) {
+                Step::No(e, p) => Step::No(e, p),
+                Step::Next(to, _, z) => grown(
+                    arms_at(marks, before + 1, s, to, left, bound, count - 1),
+                    false,
+                    z,
+                    ARM_WORDS,
+                ),
+            }
+        }
     }
 }
 

@@ -9,21 +9,22 @@ use lib.Dec.{ltb}
 use lib.ListN.{length, take, drop}
 use lib.Seq.{take-at}
 use borrow.Author.Tests.{ltb-true, ltb-false}
-use Rattle.language.specs.Term.{images, Term}
+use Rattle.language.specs.Term.{rules, images, Term}
 use Rattle.language.specs.Words.{words}
 use Rattle.language.specs.Image.{image}
 use Rattle.language.specs.Read.{noPlace, Reading, accepted, refused, read}
-use Rattle.language.specs.Calls.{Outcome, replyOf, told, filled, written}
+use Rattle.language.specs.Calls.{Outcome, success, refusal, replyOf, told, checked, measured, filled, written}
 use Rattle.language.specs.declared.Answer.{Answer}
 use Rattle.language.specs.declared.Answer.the-variants.{Count, Refusal}
 use Rattle.language.proofs.Clash.{never}
-use Rattle.trust.proofs.Accepted.{accepted-rule}
+use Rattle.trust.proofs.Accepted.{accepted-are-rules, accepted-rule}
 use Rattle.trust.proofs.Ranges.{images-in-range}
 use Rattle.trust.proofs.Unique.{words-determine}
 use Rattle.meaning.proofs.Promises.{demand3-of-words}
+use Rattle.reading.specs.Answers.{checkedReply}
 use Rattle.reading.proofs.Answers.{same-checked, same-answer}
 use Rattle.rules.specs.Contracts.{check, measure, write, pack, unpack, Allows}
-use Rattle.rules.specs.Promises.{Determined, Replied, refusing, no-room, writing, Demand1, Written, Demand2, WrittenRuns}
+use Rattle.rules.specs.Promises.{Determined, Replied, refusing, no-room, writing, Demand1, Written, Demand2, WrittenRuns, NoneAccepts, NoDeadArms}
 
 -- an answer with an output is determined by what they tell
 same-told : {o : Outcome ℕ} (x y : Answer × List ℕ) → told (x .0) (x .1) ≡ o → told (y .0) (y .1) ≡ o → x ≡ y
@@ -105,3 +106,22 @@ written-runs ws out o n t v q r h =
       },
       (demand3-of-words ws t v q r) .comes,
     )
+
+-- words that were accepted are those of a rule, whose arms can all be taken, and of no other term; so they are refused, and no call succeeds
+clash : {A : Type 0} {a : A} {e p : ℕ} → success a ≡ refusal e p → ⊥
+clash h = never cc
+
+pub no-dead-arms : NoDeadArms
+unfolding checkedReply checked replyOf measured written
+no-dead-arms t r dead = go (read (words rules t)) refl
+  where
+    go : (g : Reading) → read (words rules t) ≡ g → NoneAccepts (words rules t)
+    go (accepted u) q =
+        let a = accepted-are-rules (words rules t) u q in
+        let z : t ≡ u = words-determine rules t u r (a .1 .ranged) (a .0) in
+        absurd (dead (rw z (a .1 .live)))
+    go (refused e p) q = record {
+      checks = λ h. clash (h ∙ ap checked q);
+      measures = λ n h. clash (h ∙ ap measured q);
+      writes = λ n out o h. clash (ap (λ x. x .reply) (h ∙ ap (λ g. written g out) q));
+    }

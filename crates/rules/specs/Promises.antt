@@ -7,12 +7,14 @@ use Rattle.language.specs.Term.{rules, images, Term}
 use Rattle.language.specs.Words.{words}
 use Rattle.language.specs.Limits.{Ranged}
 use Rattle.language.specs.Run.{Run, count}
+use Rattle.language.specs.Dead.{Live}
 use Rattle.language.specs.Image.{image, carried}
 use Rattle.language.specs.Read.{noPlace, read, accepted, refused}
 use Rattle.language.specs.declared.Answer.{Answer}
 use Rattle.language.specs.declared.Answer.the-variants.{Count, Refusal}
 use Rattle.meaning.specs.Promises.{applications, Comes}
-use Rattle.rules.specs.Contracts.{Call, write, Result, Allows}
+use Rattle.reading.specs.declared.Checked.the-variants.{Success}
+use Rattle.rules.specs.Contracts.{Call, check, measure, write, Result, Allows}
 
 -- "prove that two outcomes allowed by it are equal": of every public call
 abbrev pub Determined : Type 0
@@ -52,3 +54,12 @@ abbrev pub WrittenRuns : Type 0
 WrittenRuns =
     (ws out o : List ℕ) (n : ℕ) (t v : Term) → read ws ≡ accepted t → (r : Run rules t v) → Allows (write ws out) (Count n, o)
     → (f : Front (take n o)) × Comes (f .term) (carried v) (applications (count r)) ((count r) .lets) ((count r) .matches)
+
+-- document 02, Wish 4: "Refuse such rules." No public call accepts the words of a term with a dead arm: none succeeds on them
+pub record NoneAccepts (ws : List ℕ) : Type 0 where
+  pub checks : Allows (check ws) Success → ⊥
+  pub measures : (n : ℕ) → Allows (measure ws) (Count n) → ⊥
+  pub writes : (n : ℕ) (out o : List ℕ) → Allows (write ws out) (Count n, o) → ⊥
+
+abbrev pub NoDeadArms : Type 0
+NoDeadArms = (t : Term) → Ranged rules t → (Live t → ⊥) → NoneAccepts (words rules t)

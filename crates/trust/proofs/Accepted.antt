@@ -16,13 +16,15 @@ use Rattle.language.specs.Kinds.{mostArguments, mostArms, mostByte, atTerm, atA
 use Rattle.language.specs.Words.{head, words, wordsᵗ, wordsᵃ}
 use Rattle.language.specs.Scope.{Scoped, Scopedᵗ, Scopedᵃ, s-var, s-fun, s-call, s-bind, s-con, s-cases, s-nil, s-cons, s-none, s-arm}
 use Rattle.language.specs.Limits.{deepest, mostWords, Ranged, Rangedᵗ, Rangedᵃ, r-var, r-fun, r-call, r-bind, r-con, r-cases, r-nil, r-cons, r-none, r-arm, depth, depthᵗ, depthᵃ, Rule}
+use Rattle.language.specs.Dead.{dead, Live, Liveᵗ, Liveᵃ, l-var, l-fun, l-call, l-bind, l-con, l-cases, l-nil, l-cons, l-none, l-arm}
 use Rattle.language.specs.Places.{Held}
-use Rattle.language.specs.Read.{noPlace, Got, found, fault, then, made, headed, second, many, armsOf, opened, term, accepted, reading, closed, ended, read}
+use Rattle.language.specs.Read.{noPlace, Got, found, fault, then, made, headed, second, many, unlike, armsOf, opened, term, accepted, reading, closed, ended, read}
 use Rattle.language.specs.declared.Row.{Row}
 use Rattle.language.specs.declared.Head.{Head}
 use Rattle.language.specs.declared.Head.the-variants.{Refused, Opens}
 use Rattle.language.proofs.Places.{no-words, one-word, join}
-use Rattle.trust.specs.Promises.{AcceptedAreRules}
+use Rattle.trust.specs.Promises.{AcceptedAreRules, ArmsCanBeTaken}
+use Rattle.trust.proofs.Live.{Fresh, f-none, f-arm, each-taken}
 use Rattle.trust.proofs.Rows.{Opened, o-var, o-fun, o-rec, o-call, o-let, o-con, o-match, o-arm, passed}
 
 -- `Holds Q g`: whatever the reading g found, Q holds of it and of the place after it
@@ -62,19 +64,23 @@ pub record Good (s : List ℕ) (d n at : ℕ) (t : Term) (to : ℕ) : Type 0 whe
   pub held : Held s (words rules t) at to
   pub scoped : (c : ℕ) → Scoped rules c n t
   pub ranged : Ranged rules t
+  pub live : Live t
   pub shallow : depth t ≤ d
 
 pub record Goodᵗ (s : List ℕ) (d n k at : ℕ) (ts : Terms) (to : ℕ) : Type 0 where
   pub held : Held s (wordsᵗ rules ts) at to
   pub scoped : (c : ℕ) → Scopedᵗ rules c n ts
   pub ranged : Rangedᵗ rules ts
+  pub live : Liveᵗ ts
   pub shallow : depthᵗ ts ≤ d
   pub counted : size ts ≡ k
 
-pub record Goodᵃ (s : List ℕ) (d n k at : ℕ) (ps : Arms) (to : ℕ) : Type 0 where
+pub record Goodᵃ (s : List ℕ) (d : ℕ) (before : List (ℕ × ℕ)) (n k at : ℕ) (ps : Arms) (to : ℕ) : Type 0 where
   pub held : Held s (wordsᵃ rules ps) at to
   pub scoped : (c : ℕ) → Scopedᵃ rules c n ps
   pub ranged : Rangedᵃ rules ps
+  pub live : Liveᵃ ps
+  pub fresh : Fresh before ps
   pub shallow : depthᵃ ps ≤ d
   pub counted : sizeᵃ ps ≡ k
 
@@ -82,18 +88,30 @@ pub record Second (s : List ℕ) (at m to : ℕ) : Type 0 where
   pub held : Held s (m ∷ []) at to
   pub most : m ≤ mostArguments
 
-second-good : (s : List ℕ) (at : ℕ) → Holds (Second s at) (second s at)
+pub record Unlike (s : List ℕ) (before : List (ℕ × ℕ)) (t at m to : ℕ) : Type 0 where
+  pub second : Second s at m to
+  pub first : dead t m before ≡ false
+
+pub second-good : (s : List ℕ) (at : ℕ) → Holds (Second s at) (second s at)
 unfolding second
 second-good s at = holds-test _ _ _ _ (λ a. holds-test _ _ _ _ (λ b. held record {
   held = one-word s at (ltb-true at (length s) a);
   most = leb-true (getD s at 0) mostArguments b;
 }))
 
+pub unlike-good : (s : List ℕ) (before : List (ℕ × ℕ)) (t at : ℕ) → Holds (Unlike s before t at) (unlike s before t at)
+unfolding unlike
+unlike-good s before t at = holds-then _ (second-good s at) (λ m to x. go m to x (dead t m before) refl)
+  where
+    go : (m to : ℕ) → Second s at m to → (b : Bool) → dead t m before ≡ b → Holds (Unlike s before t at) (cond b (fault 18 at) (found m to))
+    go m to x true e = left
+    go m to x false e = held record { second = x; first = e }
+
 -- the terms, lists and arms that good parts make
 module _ {s : List ℕ} {d n at : ℕ} where
   nil-good : Goodᵗ s d n 0 at nil at
   unfolding words size depth
-  nil-good = record { held = no-words s at; scoped = λ c. s-nil; ranged = r-nil; shallow = omega arith; counted = refl }
+  nil-good = record { held = no-words s at; scoped = λ c. s-nil; ranged = r-nil; live = l-nil; shallow = omega arith; counted = refl }
 
   cons-good : {k i to : ℕ} {t : Term} {ts : Terms} → Good s d n at t i → Goodᵗ s d n k i ts to → Goodᵗ s d n (suc k) at (cons t ts) to
   unfolding words size depth
@@ -101,28 +119,32 @@ module _ {s : List ℕ} {d n at : ℕ} where
     held = join (x .held) (y .held);
     scoped = λ c. s-cons (x .scoped c) (y .scoped c);
     ranged = r-cons (x .ranged) (y .ranged);
+    live = l-cons (x .live) (y .live);
     shallow = omega arith;
     counted = ap suc (y .counted);
   }
 
-  none-good : Goodᵃ s d n 0 at none at
+  none-good : {before : List (ℕ × ℕ)} → Goodᵃ s d before n 0 at none at
   unfolding words sizeᵃ depth
-  none-good = record { held = no-words s at; scoped = λ c. s-none; ranged = r-none; shallow = omega arith; counted = refl }
+  none-good = record { held = no-words s at; scoped = λ c. s-none; ranged = r-none; live = l-none; fresh = f-none; shallow = omega arith; counted = refl }
 
-  arm-good : {t m k i j to : ℕ} {b : Term} {ps : Arms} → Held s (head 8 t ∷ []) at (at + 1) → t ≤ mostByte → Second s (at + 1) m i → Good s d (n + m) i b j
-      → Goodᵃ s d n k j ps to → Goodᵃ s d n (suc k) at (arm t m b ps) to
+  arm-good : {before : List (ℕ × ℕ)} {t m k i j to : ℕ} {b : Term} {ps : Arms} → Held s (head 8 t ∷ []) at (at + 1) → t ≤ mostByte
+      → Unlike s before t (at + 1) m i → Good s d (n + m) i b j → Goodᵃ s d (before ++ ((t, m) ∷ [])) n k j ps to
+      → Goodᵃ s d before n (suc k) at (arm t m b ps) to
   unfolding words sizeᵃ depth
   arm-good h l m x y = record {
-    held = join h (join (m .held) (join (x .held) (y .held)));
+    held = join h (join (m .second .held) (join (x .held) (y .held)));
     scoped = λ c. s-arm (x .scoped c) (y .scoped c);
-    ranged = r-arm l (m .most) (x .ranged) (y .ranged);
+    ranged = r-arm l (m .second .most) (x .ranged) (y .ranged);
+    live = l-arm (x .live) (y .live);
+    fresh = f-arm (m .first) (y .fresh);
     shallow = omega arith;
     counted = ap suc (y .counted);
   }
 
   var-good : {a : ℕ} → Held s (head 1 a ∷ []) at (at + 1) → a < n → a ≤ mostByte → Good s (suc d) n at (var a) (at + 1)
   unfolding words depth
-  var-good h l m = record { held = h; scoped = λ c. s-var l; ranged = r-var m; shallow = omega arith }
+  var-good h l m = record { held = h; scoped = λ c. s-var l; ranged = r-var m; live = l-var; shallow = omega arith }
 
   fun-good : {o a to : ℕ} {b : Term} → Held s (head (2 + o) a ∷ []) at (at + 1) → o ≤ 1 → 1 ≤ a → a ≤ mostArguments → Good s d (n + a + o) (at + 1) b to
       → Good s (suc d) n at (fun o a b) to
@@ -131,6 +153,7 @@ module _ {s : List ℕ} {d n at : ℕ} where
     held = rw add-zero (join h (x .held));
     scoped = λ c. s-fun (x .scoped (suc c));
     ranged = r-fun {a = a} p (rw add-zero l) m (x .ranged);
+    live = l-fun (x .live);
     shallow = omega arith;
   }
 
@@ -141,6 +164,7 @@ module _ {s : List ℕ} {d n at : ℕ} where
     held = rw (y .counted) (join h (join (x .held) (y .held)));
     scoped = λ c. s-call (x .scoped c) (y .scoped c);
     ranged = r-call {ps = ps} (omega (arith, y .counted)) (omega (arith, y .counted)) (x .ranged) (y .ranged);
+    live = l-call (x .live) (y .live);
     shallow = omega arith;
   }
 
@@ -151,6 +175,7 @@ module _ {s : List ℕ} {d n at : ℕ} where
     held = join h (join (x .held) (y .held));
     scoped = λ c. s-bind (x .scoped c) (rw add-one at (y .scoped c));
     ranged = r-bind (x .ranged) (y .ranged);
+    live = l-bind (x .live) (y .live);
     shallow = omega arith;
   }
 
@@ -161,16 +186,18 @@ module _ {s : List ℕ} {d n at : ℕ} where
     held = rw (y .counted) (join h (join (m .held) (y .held)));
     scoped = λ c. s-con (y .scoped c);
     ranged = r-con {ps = ps} l (rw (y .counted) (m .most)) (y .ranged);
+    live = l-con (y .live);
     shallow = omega arith;
   }
 
   match-good : {a i to : ℕ} {m : Term} {ps : Arms} → Held s (head 7 a ∷ []) at (at + 1) → 1 ≤ a → a ≤ mostArms → Good s d n (at + 1) m i
-      → Goodᵃ s d n a i ps to → Good s (suc d) n at (cases m ps) to
+      → Goodᵃ s d [] n a i ps to → Good s (suc d) n at (cases m ps) to
   unfolding words depth
   match-good {ps} h l u x y = record {
     held = rw (y .counted) (join h (join (x .held) (y .held)));
     scoped = λ c. s-cases (x .scoped c) (y .scoped c);
     ranged = r-cases {ps = ps} (omega (arith, y .counted)) (omega (arith, y .counted)) (x .ranged) (y .ranged);
+    live = l-cases (each-taken (y .fresh)) (x .live) (y .live);
     shallow = omega arith;
   }
 
@@ -198,14 +225,15 @@ module _ (s : List ℕ) (d : ℕ) (p : ℕ → ℕ → Got Term) (good : (n at :
   many-good n zero at = held nil-good
   many-good n (suc k) at = holds-then _ (good n at) (λ t i x. holds-made _ (many-good n k i) (λ ts to y. cons-good x y))
 
-  pub arms-good : (n k at : ℕ) → Holds (Goodᵃ s d n k at) (armsOf s p n k at)
+  pub arms-good : (before : List (ℕ × ℕ)) (n k at : ℕ) → Holds (Goodᵃ s d before n k at) (armsOf s p before n k at)
   unfolding armsOf
-  arms-good n zero at = held none-good
-  arms-good n (suc k) at = holds-test (ltb at (length s)) _ 3 (length s) (λ a. holds-head (headOf atArm (getD s at 0)) at _ (λ r e.
+  arms-good before n zero at = held none-good
+  arms-good before n (suc k) at = holds-test (ltb at (length s)) _ 3 (length s) (λ a. holds-head (headOf atArm (getD s at 0)) at _ (λ r e.
       let h = passed atArm (getD s at 0) r (omega arith) e in
       let first = head-held s at (ltb-true at (length s) a) (arm-kind (h .opened) (h .stands)) in
-      holds-then _ (second-good s (at + 1)) (λ m i y. holds-then _
-      (good (n + m) i) (λ b j x. holds-made _ (arms-good n k j) (λ ps to z. arm-good first (byte (getD s at 0)) y x z)))))
+      let t = getD s at 0 % 256 in
+      holds-then _ (unlike-good s before t (at + 1)) (λ m i y. holds-then _ (good (n + m) i)
+      (λ b j x. holds-made _ (arms-good (before ++ ((t, m) ∷ [])) n k j) (λ ps to z. arm-good first (byte (getD s at 0)) y x z)))))
     where
       byte : (w : ℕ) → w % 256 ≤ mostByte
       byte w = omega arith
@@ -226,7 +254,7 @@ module _ (s : List ℕ) (d : ℕ) (p : ℕ → ℕ → Got Term) (good : (n at :
   opened-good n at h q o-con e l u =
       holds-then _ (second-good s (at + 1)) (λ m i y. holds-made _ (many-good _ _ _) (λ ps to z. con-good (head-held s at h q) u y z))
   opened-good n at h q o-match e l u =
-      holds-then _ (good _ _) (λ m i y. holds-made _ (arms-good _ _ _) (λ ps to z. match-good (head-held s at h q) l u y z))
+      holds-then _ (good _ _) (λ m i y. holds-made _ (arms-good [] _ _ _) (λ ps to z. match-good (head-held s at h q) l u y z))
   opened-good n at h q o-arm e l u = absurd (omega arith)
 
 pub term-good : (s : List ℕ) (d n at : ℕ) → Holds (Good s d n at) (term s d n at)
@@ -263,7 +291,7 @@ ended-rule s t to x l = go (ltb to (length s)) refl
     go true e = left
     go false e =
         let q : s ≡ words rules t = all-words (x .held) (ltb-false to (length s) e) in
-        held (q, record { closed = x .scoped 0; ranged = x .ranged; shallow = x .shallow; short = rw (← q) l })
+        held (q, record { closed = x .scoped 0; ranged = x .ranged; shallow = x .shallow; short = rw (← q) l; live = x .live })
 
 reading-accepted : {g : Got Term} {Q : Term → Type 0} {t : Term} → Holds (λ u to. Q u) g → reading g ≡ accepted t → Q t
 reading-accepted {Q} {t} (held {a} q) e = let z : a ≡ t = cc in subst Q z q
@@ -276,3 +304,6 @@ accepted-are-rules ws t e = reading-accepted (holds-then (ended ws) (closed-good
 -- an accepted term is a rule: closed among other things
 pub accepted-rule : (ws : List ℕ) (t : Term) → read ws ≡ accepted t → Rule t
 accepted-rule ws t e = accepted-are-rules ws t e .1
+
+pub arms-can-be-taken : ArmsCanBeTaken
+arms-can-be-taken ws t e = accepted-rule ws t e .live

@@ -3,7 +3,8 @@
 -- Assumes nothing.
 use Prim.Native.Nat.{ℕ, zero, suc, _+_, _-_, _%_, _<_, _≤_}
 use mathlib.Core.Path.{_≡_, refl, sym, ap, _∙_}
-use mathlib.Core.List.{List}
+use mathlib.Core.Bool.{false}
+use mathlib.Core.List.{List, [], _∷_, _++_}
 use native.Mathlib.Omega.{arith}
 use native.Mathlib.Numerals.{add-one, sub-one}
 use lib.ListN.{length, getD}
@@ -13,13 +14,15 @@ use Rattle.language.specs.Kinds.{mostArguments, mostByte, atTerm, atArm, row, n
 use Rattle.language.specs.Words.{head, words, wordsᵗ, wordsᵃ}
 use Rattle.language.specs.Scope.{Scoped, Scopedᵗ, Scopedᵃ, s-var, s-fun, s-call, s-bind, s-con, s-cases, s-nil, s-cons, s-none, s-arm}
 use Rattle.language.specs.Limits.{deepest, mostWords, Ranged, Rangedᵗ, Rangedᵃ, r-var, r-kvar, r-fun, r-call, r-bind, r-con, r-cases, r-nil, r-cons, r-none, r-arm, depth, depthᵗ, depthᵃ}
+use Rattle.language.specs.Dead.{dead, Live, Liveᵗ, Liveᵃ, l-var, l-kvar, l-fun, l-call, l-bind, l-con, l-cases, l-nil, l-cons, l-none, l-arm}
 use Rattle.language.specs.Places.{Held}
-use Rattle.language.specs.Read.{Got, found, then, made, second, many, armsOf, opened, term, closed, ended, read}
+use Rattle.language.specs.Read.{Got, found, then, made, second, many, unlike, armsOf, opened, term, closed, ended, read}
 use Rattle.language.specs.declared.Parts.the-variants.{Nothing, Body, FunctionAndArguments, BoundAndBody, CountAndArguments, SubjectAndArms}
 use Rattle.language.specs.declared.Row.{Row}
 use Rattle.language.proofs.Heads.{head-opens}
 use Rattle.language.proofs.Places.{whole, first-run, second-run, there, first-word, next-words}
 use Rattle.trust.specs.Promises.{RulesAreAccepted}
+use Rattle.trust.proofs.Live.{Fresh, f-none, f-arm, taken-each}
 
 -- reading on, where the first part was found
 then-is : {A B : Type 0} {g : Got A} {a : A} {i : ℕ} (f : A → ℕ → Got B) {h : Got B} → g ≡ found a i → f a i ≡ h → then g f ≡ h
@@ -50,7 +53,7 @@ module _ (s : List ℕ) (p : ℕ → ℕ → Got Term) (n at : ℕ) where
   unfolding opened
   con-is t m e k = then-is _ e (made-is _ k)
 
-  match-is : {m : Term} {ps : Arms} {i to : ℕ} (a : ℕ) → p n (at + 1) ≡ found m i → armsOf s p n a i ≡ found ps to
+  match-is : {m : Term} {ps : Arms} {i to : ℕ} (a : ℕ) → p n (at + 1) ≡ found m i → armsOf s p [] n a i ≡ found ps to
       → opened s p n at a 0 SubjectAndArms ≡ found (cases m ps) to
   unfolding opened
   match-is a e k = then-is _ e (made-is _ k)
@@ -59,6 +62,12 @@ module _ (s : List ℕ) (p : ℕ → ℕ → Got Term) (n at : ℕ) where
 second-is : (s : List ℕ) (at m : ℕ) → at < length s → getD s at 0 ≡ m → m ≤ mostArguments → second s at ≡ found m (at + 1)
 unfolding second
 second-is s at m t e l = simp (lt-ltb at (length s) t, e, le-leb m mostArguments l)
+
+-- such a second word of an arm that is not dead
+unlike-is : (s : List ℕ) (before : List (ℕ × ℕ)) (t at m : ℕ) → second s at ≡ found m (at + 1) → dead t m before ≡ false
+    → unlike s before t at ≡ found m (at + 1)
+unfolding unlike
+unlike-is s before t at m e k = then-is _ e (rw k)
 
 module _ (s : List ℕ) (n at : ℕ) where
   -- such a head at a place, with a level of depth left: the term is what its parts make
@@ -70,11 +79,11 @@ module _ (s : List ℕ) (n at : ℕ) where
       let m : getD s at 0 % 256 ≡ a = omega arith in
       simp (lt-ltb at (length s) t, sym (head-opens atTerm (getD s at 0) k a e l i st lo hi), m, sub-one)
 
-  arm-is : (p : ℕ → ℕ → Got Term) (t m k : ℕ) {b : Term} {ps : Arms} {j to : ℕ} → at < length s → getD s at 0 ≡ head 8 t → t ≤ mostByte
-      → second s (at + 1) ≡ found m (at + 1 + 1) → p (n + m) (at + 1 + 1) ≡ found b j → armsOf s p n k j ≡ found ps to
-      → armsOf s p n (suc k) at ≡ found (arm t m b ps) to
+  arm-is : (p : ℕ → ℕ → Got Term) (before : List (ℕ × ℕ)) (t m k : ℕ) {b : Term} {ps : Arms} {j to : ℕ} → at < length s → getD s at 0 ≡ head 8 t
+      → t ≤ mostByte → unlike s before t (at + 1) ≡ found m (at + 1 + 1) → p (n + m) (at + 1 + 1) ≡ found b j
+      → armsOf s p (before ++ ((t, m) ∷ [])) n k j ≡ found ps to → armsOf s p before n (suc k) at ≡ found (arm t m b ps) to
   unfolding armsOf
-  arm-is p t m k h e l c x y =
+  arm-is p before t m k h e l c x y =
       let r : getD s at 0 % 256 ≡ t = omega arith in
       simp (lt-ltb at (length s) h, sym (head-opens atArm (getD s at 0) 8 t e l refl refl (omega arith) l), r)
       (then-is _ c (then-is _ x (made-is _ y)))
@@ -88,51 +97,51 @@ module _ (s : List ℕ) where
   mutual
     unfolding words size sizeᵃ depth opened many armsOf
 
-    pub term-is : {t : Term} → Ranged rules t → {c n : ℕ} → Scoped rules c n t → (d at to : ℕ) → Held s (words rules t) at to → depth t ≤ d
+    pub term-is : {t : Term} → Ranged rules t → {c n : ℕ} → Scoped rules c n t → Live t → (d at to : ℕ) → Held s (words rules t) at to → depth t ≤ d
         → term s d n at ≡ found t to
-    term-is (r-var {i} l) {n = n} (s-var b) d at to h e =
+    term-is (r-var {i} l) {n = n} (s-var b) l-var d at to h e =
         term-opens s n at d 1 i (omega arith) (there h) (first-word h) l refl refl (omega arith) l
         ∙ var-is s (term s (d - 1)) n at i b (h .past)
-    term-is (r-kvar k l) x d at to h e = absurd k
-    term-is (r-fun {o} {a} p l u y) {n = n} (s-fun x) d at to h e =
+    term-is (r-kvar k l) x g d at to h e = absurd k
+    term-is (r-fun {o} {a} p l u y) {n = n} (s-fun x) (l-fun f) d at to h e =
         term-opens s n at d (2 + o) a (omega arith) (there h) (omega (arith, first-word h)) (omega arith) (fun-row o p) refl (omega arith) u
-        ∙ made-is (fun o a) (term-is y x (d - 1) (at + 1) to (next-words h) (omega arith))
-    term-is (r-call {f} {ps} l u y z) {n = n} (s-call x w) d at to h e =
+        ∙ made-is (fun o a) (term-is y x f (d - 1) (at + 1) to (next-words h) (omega arith))
+    term-is (r-call {f} {ps} l u y z) {n = n} (s-call x w) (l-call g i) d at to h e =
         term-opens s n at d 4 (size ps) (omega arith) (there h) (first-word h) (omega arith) refl refl l (omega arith)
         ∙ call-is s (term s (d - 1)) n at (size ps)
-        (term-is y x (d - 1) (at + 1) (at + 1 + length (words rules f)) (first-run (words rules f) (wordsᵗ rules ps) (next-words h)) (omega arith))
-        (terms-is z w (d - 1) (at + 1 + length (words rules f)) to (second-run (words rules f) (wordsᵗ rules ps) (next-words h)) (omega arith))
-    term-is (r-bind {m} {b} y z) {n = n} (s-bind x w) d at to h e =
+        (term-is y x g (d - 1) (at + 1) (at + 1 + length (words rules f)) (first-run (words rules f) (wordsᵗ rules ps) (next-words h)) (omega arith))
+        (terms-is z w i (d - 1) (at + 1 + length (words rules f)) to (second-run (words rules f) (wordsᵗ rules ps) (next-words h)) (omega arith))
+    term-is (r-bind {m} {b} y z) {n = n} (s-bind x w) (l-bind g i) d at to h e =
         term-opens s n at d 5 0 (omega arith) (there h) (first-word h) (omega arith) refl refl (omega arith) (omega arith)
         ∙ let-is s (term s (d - 1)) n at
-        (term-is y x (d - 1) (at + 1) (at + 1 + length (words rules m)) (first-run (words rules m) (words rules b) (next-words h)) (omega arith))
-        (term-is z w (d - 1) (at + 1 + length (words rules m)) to (second-run (words rules m) (words rules b) (next-words h)) (omega arith))
-    term-is (r-con {t} {ps} l u z) {n = n} (s-con w) d at to h e =
+        (term-is y x g (d - 1) (at + 1) (at + 1 + length (words rules m)) (first-run (words rules m) (words rules b) (next-words h)) (omega arith))
+        (term-is z w i (d - 1) (at + 1 + length (words rules m)) to (second-run (words rules m) (words rules b) (next-words h)) (omega arith))
+    term-is (r-con {t} {ps} l u z) {n = n} (s-con w) (l-con i) d at to h e =
         term-opens s n at d 6 t (omega arith) (there h) (first-word h) l refl refl (omega arith) l
         ∙ con-is s (term s (d - 1)) n at t (size ps)
         (second-is s (at + 1) (size ps) (there (next-words h)) (first-word (next-words h)) u)
-        (terms-is z w (d - 1) (at + 1 + 1) to (next-words (next-words h)) (omega arith))
-    term-is (r-cases {m} {ps} l u y z) {n = n} (s-cases x w) d at to h e =
+        (terms-is z w i (d - 1) (at + 1 + 1) to (next-words (next-words h)) (omega arith))
+    term-is (r-cases {m} {ps} l u y z) {n = n} (s-cases x w) (l-cases f g i) d at to h e =
         term-opens s n at d 7 (sizeᵃ ps) (omega arith) (there h) (first-word h) (omega arith) refl refl l u
         ∙ match-is s (term s (d - 1)) n at (sizeᵃ ps)
-        (term-is y x (d - 1) (at + 1) (at + 1 + length (words rules m)) (first-run (words rules m) (wordsᵃ rules ps) (next-words h)) (omega arith))
-        (arms-is z w (d - 1) (at + 1 + length (words rules m)) to (second-run (words rules m) (wordsᵃ rules ps) (next-words h)) (omega arith))
+        (term-is y x g (d - 1) (at + 1) (at + 1 + length (words rules m)) (first-run (words rules m) (wordsᵃ rules ps) (next-words h)) (omega arith))
+        (arms-is z w i (taken-each ps f) (d - 1) (at + 1 + length (words rules m)) to (second-run (words rules m) (wordsᵃ rules ps) (next-words h)) (omega arith))
 
-    pub terms-is : {ts : Terms} → Rangedᵗ rules ts → {c n : ℕ} → Scopedᵗ rules c n ts → (d at to : ℕ) → Held s (wordsᵗ rules ts) at to → depthᵗ ts ≤ d
+    pub terms-is : {ts : Terms} → Rangedᵗ rules ts → {c n : ℕ} → Scopedᵗ rules c n ts → Liveᵗ ts → (d at to : ℕ) → Held s (wordsᵗ rules ts) at to → depthᵗ ts ≤ d
         → many (term s d n) (size ts) at ≡ found ts to
-    terms-is r-nil s-nil d at to h e = ap (found nil) (omega (arith, h .past))
-    terms-is (r-cons {t} {ts} y z) (s-cons x w) d at to h e =
-        then-is _ (term-is y x d at (at + length (words rules t)) (first-run (words rules t) (wordsᵗ rules ts) h) (omega arith))
-        (made-is (cons t) (terms-is z w d (at + length (words rules t)) to (second-run (words rules t) (wordsᵗ rules ts) h) (omega arith)))
+    terms-is r-nil s-nil l-nil d at to h e = ap (found nil) (omega (arith, h .past))
+    terms-is (r-cons {t} {ts} y z) (s-cons x w) (l-cons g i) d at to h e =
+        then-is _ (term-is y x g d at (at + length (words rules t)) (first-run (words rules t) (wordsᵗ rules ts) h) (omega arith))
+        (made-is (cons t) (terms-is z w i d (at + length (words rules t)) to (second-run (words rules t) (wordsᵗ rules ts) h) (omega arith)))
 
-    pub arms-is : {ps : Arms} → Rangedᵃ rules ps → {c n : ℕ} → Scopedᵃ rules c n ps → (d at to : ℕ) → Held s (wordsᵃ rules ps) at to → depthᵃ ps ≤ d
-        → armsOf s (term s d) n (sizeᵃ ps) at ≡ found ps to
-    arms-is r-none s-none d at to h e = ap (found none) (omega (arith, h .past))
-    arms-is (r-arm {t} {n = m} {b} {ps} l u y z) {n = n} (s-arm x w) d at to h e =
-        arm-is s n at (term s d) t m (sizeᵃ ps) (there h) (first-word h) l
-        (second-is s (at + 1) m (there (next-words h)) (first-word (next-words h)) u)
-        (term-is y x d (at + 1 + 1) (at + 1 + 1 + length (words rules b)) (first-run (words rules b) (wordsᵃ rules ps) (next-words (next-words h))) (omega arith))
-        (arms-is z w d (at + 1 + 1 + length (words rules b)) to (second-run (words rules b) (wordsᵃ rules ps) (next-words (next-words h))) (omega arith))
+    pub arms-is : {ps : Arms} → Rangedᵃ rules ps → {c n : ℕ} → Scopedᵃ rules c n ps → Liveᵃ ps → {before : List (ℕ × ℕ)} → Fresh before ps
+        → (d at to : ℕ) → Held s (wordsᵃ rules ps) at to → depthᵃ ps ≤ d → armsOf s (term s d) before n (sizeᵃ ps) at ≡ found ps to
+    arms-is r-none s-none l-none f-none d at to h e = ap (found none) (omega (arith, h .past))
+    arms-is (r-arm {t} {n = m} {b} {ps} l u y z) {n = n} (s-arm x w) (l-arm g i) {before} (f-arm f q) d at to h e =
+        arm-is s n at (term s d) before t m (sizeᵃ ps) (there h) (first-word h) l
+        (unlike-is s before t (at + 1) m (second-is s (at + 1) m (there (next-words h)) (first-word (next-words h)) u) f)
+        (term-is y x g d (at + 1 + 1) (at + 1 + 1 + length (words rules b)) (first-run (words rules b) (wordsᵃ rules ps) (next-words (next-words h))) (omega arith))
+        (arms-is z w i q d (at + 1 + 1 + length (words rules b)) to (second-run (words rules b) (wordsᵃ rules ps) (next-words (next-words h))) (omega arith))
 
 -- a term has a word at least
 some-words : (t : Term) → 0 < length (words rules t)
@@ -152,6 +161,6 @@ rules-are-accepted t r =
     simp (
       ne-eqb (length s) 0 (λ e. omega (arith, some-words t)),
       le-ltb mostWords (length s) (r .short),
-      term-is s (r .ranged) (r .closed) deepest 0 (length s) (whole s) (r .shallow),
+      term-is s (r .ranged) (r .closed) (r .live) deepest 0 (length s) (whole s) (r .shallow),
       le-ltb (length s) (length s) (omega arith),
     )

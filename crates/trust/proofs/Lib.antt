@@ -1,3 +1,4 @@
+pub mod Live
 pub mod Rows
 pub mod Accepted
 pub mod Complete

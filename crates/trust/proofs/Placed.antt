@@ -5,7 +5,7 @@
 use Prim.Native.Nat.{ℕ, zero, suc, _+_, _%_, _<_, _≤_}
 use mathlib.Core.Path.{_≡_, refl, ap, _∙_}
 use mathlib.Core.Bool.{Bool, true, false, cond}
-use mathlib.Core.List.{List, _++_}
+use mathlib.Core.List.{List, [], _∷_, _++_}
 use native.Mathlib.Omega.{arith}
 use lib.Dec.{ltb, leb, eqb}
 use lib.ListN.{length, getD, take, length-append, List·getD-append}
@@ -14,19 +14,20 @@ use borrow.Author.Tests.{lt-ltb, le-ltb, ne-eqb, ltb-true, ltb-false}
 use Rattle.language.specs.Term.{Term, var, fun, call, bind, con, cases, nil, cons, none, arm}
 use Rattle.language.specs.Kinds.{mostArguments, atTerm, atArm, rowOf, tested, headOf}
 use Rattle.language.specs.Limits.{deepest, mostWords}
-use Rattle.language.specs.Read.{noPlace, Got, found, fault, then, made, word, headed, second, many, armsOf, opened, term, refused, reading, closed, ended, read}
+use Rattle.language.specs.Dead.{dead}
+use Rattle.language.specs.Read.{noPlace, Got, found, fault, then, made, word, headed, second, many, unlike, armsOf, opened, term, refused, reading, closed, ended, read}
 use Rattle.language.specs.declared.Parts.{Parts}
 use Rattle.language.specs.declared.Parts.the-variants.{Nothing, Body, FunctionAndArguments, BoundAndBody, CountAndArguments, SubjectAndArms, ArityAndBody}
 use Rattle.language.specs.declared.Row.{Row}
 use Rattle.language.specs.declared.Head.{Head}
 use Rattle.language.specs.declared.Head.the-variants.{Refused, Opens}
 use Rattle.language.proofs.Clash.{never}
-use Rattle.trust.specs.Promises.{Placed, of-length, of-end, of-word, PlacesHelp}
+use Rattle.trust.specs.Promises.{OfWord, of-rule, of-dead-arm, Placed, of-length, of-end, of-word, PlacesHelp}
 
 -- what a fault tells that is met in reading the words s: none is left, or the word at its place is refused
 data Told (s : List ℕ) : ℕ → ℕ → Type 0 where
   ends : Told s 3 (length s)
-  tests : {e p : ℕ} → 4 ≤ e → e ≤ 8 → p < length s → Told s e p
+  tests : {e p : ℕ} → OfWord e → p < length s → Told s e p
 
 data Tells (s : List ℕ) {A : Type 0} : Got A → Type 0 where
   finds : {a : A} {to : ℕ} → Tells s (found a to)
@@ -42,19 +43,39 @@ record Alike (s : List ℕ) (k at : ℕ) {A : Type 0} (g h : Got A) : Type 0 whe
   tells : Tells s g
   same : Settled k g → (at ≤ k) × (h ≡ g)
 
+-- a refusal that tests a word is none of those before
+past-three : {e : ℕ} → OfWord e → 4 ≤ e
+past-three (of-rule l m) = l
+past-three of-dead-arm = omega arith
+
 -- a head is refused by 4 or 5
-head-told : (q w : ℕ) {e : ℕ} → headOf q w ≡ Refused e → (4 ≤ e) × (e ≤ 8)
+head-told : (q w : ℕ) {e : ℕ} → headOf q w ≡ Refused e → OfWord e
 unfolding headOf tested
 head-told q w {e} h = go (eqb (r .stands) q) (ltb (w % 256) (r .low)) (ltb (r .high) (w % 256)) h
   where
     r : Row
     r = rowOf w
 
-    go : (a b c : Bool) → cond a (cond b (Refused 5) (cond c (Refused 5) (Opens r))) (Refused 4) ≡ Refused e → (4 ≤ e) × (e ≤ 8)
-    go true true c k = let z : _≡_ {A = ℕ} 5 e = cc in (omega arith, omega arith)
-    go true false true k = let z : _≡_ {A = ℕ} 5 e = cc in (omega arith, omega arith)
+    go : (a b c : Bool) → cond a (cond b (Refused 5) (cond c (Refused 5) (Opens r))) (Refused 4) ≡ Refused e → OfWord e
+    go true true c k = let z : _≡_ {A = ℕ} 5 e = cc in of-rule {e = e} (omega arith) (omega arith)
+    go true false true k = let z : _≡_ {A = ℕ} 5 e = cc in of-rule {e = e} (omega arith) (omega arith)
     go true false false k = never cc
-    go false b c k = let z : _≡_ {A = ℕ} 4 e = cc in (omega arith, omega arith)
+    go false b c k = let z : _≡_ {A = ℕ} 4 e = cc in of-rule {e = e} (omega arith) (omega arith)
+
+-- an arm's second word and its three tests
+unlike-word : (s : List ℕ) (before : List (ℕ × ℕ)) (t at : ℕ)
+    → unlike s before t at ≡ word s at (λ m. cond (leb m mostArguments) (cond (dead t m before) (fault 18 at) (found m (at + 1))) (fault 5 at))
+unfolding unlike second then
+unlike-word s before t at = go (ltb at (length s)) (leb (getD s at 0) mostArguments)
+  where
+    rest : ℕ → ℕ → Got ℕ
+    rest m to = cond (dead t m before) (fault 18 at) (found m to)
+
+    go : (b c : Bool) → then (cond b (cond c (found (getD s at 0) (at + 1)) (fault 5 at)) (fault 3 (length s))) rest
+        ≡ cond b (cond c (rest (getD s at 0) (at + 1)) (fault 5 at)) (fault 3 (length s))
+    go true true = refl
+    go true false = refl
+    go false c = refl
 
 module _ (s u : List ℕ) (k : ℕ) (agree : (i : ℕ) → i < k → i < length s → (i < length u) × (getD u i 0 ≡ getD s i 0)) where
   found-alike : {A : Type 0} {at to : ℕ} (a : A) → at ≤ to → Alike s k at (found a to) (found a to)
@@ -63,11 +84,11 @@ module _ (s u : List ℕ) (k : ℕ) (agree : (i : ℕ) → i < k → i < length 
       go : Settled k (found a to) → (at ≤ k) × (_≡_ {A = Got A} (found a to) (found a to))
       go (by-end m) = (omega arith, refl)
 
-  fault-alike : {A : Type 0} {at p : ℕ} (e : ℕ) → 4 ≤ e → e ≤ 8 → p < length s → at ≤ p + 1 → Alike s k at {A = A} (fault e p) (fault e p)
-  fault-alike {A} {at} {p} e l m n b = record { tells = faults (tests l m n); same = go }
+  fault-alike : {A : Type 0} {e at p : ℕ} → OfWord e → p < length s → at ≤ p + 1 → Alike s k at {A = A} (fault e p) (fault e p)
+  fault-alike {A} {e} {at} {p} l m n = record { tells = faults (tests l m); same = go }
     where
       go : Settled k {A = A} (fault e p) → (at ≤ k) × (_≡_ {A = Got A} (fault e p) (fault e p))
-      go (by-fault m n) = (omega arith, refl)
+      go (by-fault l m) = (omega arith, refl)
 
   from : {A : Type 0} {at to : ℕ} {g h : Got A} → at ≤ to → Alike s k to g h → Alike s k at g h
   from l x = record { tells = x .tells; same = λ d. let y = x .same d in (omega (arith, y .0), y .1) }
@@ -127,13 +148,18 @@ module _ (s u : List ℕ) (k : ℕ) (agree : (i : ℕ) → i < k → i < length 
   head-alike q w at {f} {f'} l x = go (headOf q w) refl
     where
       go : (o : Head) → headOf q w ≡ o → Alike s k (at + 1) (headed o at f) (headed o at f')
-      go (Refused e) i = let t = head-told q w i in fault-alike e (t .0) (t .1) l (omega arith)
+      go (Refused e) i = fault-alike (head-told q w i) l (omega arith)
       go (Opens r) i = x r
 
   second-alike : (at : ℕ) → Alike s k (at + 1) (second s at) (second u at)
   unfolding second
   second-alike at = word-alike at (λ w l. test-alike (leb w mostArguments) (found-alike {to = at + 1} w (omega arith))
-      (fault-alike 5 (omega arith) (omega arith) l (omega arith)))
+      (fault-alike (of-rule {e = 5} (omega arith) (omega arith)) l (omega arith)))
+
+  unlike-alike : (before : List (ℕ × ℕ)) (t at : ℕ) → Alike s k (at + 1) (unlike s before t at) (unlike u before t at)
+  unlike-alike before t at = rw (unlike-word s before t at, unlike-word u before t at) (word-alike at (λ w l. test-alike (leb w mostArguments)
+      (test-alike (dead t w before) (fault-alike of-dead-arm l (omega arith)) (found-alike {to = at + 1} w (omega arith)))
+      (fault-alike (of-rule {e = 5} (omega arith) (omega arith)) l (omega arith))))
 
   -- the readers of lists, arms and forms, where p and p' read their terms in the two tables
   module _ (p p' : ℕ → ℕ → Got Term) (alike : (n at : ℕ) → Alike s k (at + 1) (p n at) (p' n at)) where
@@ -145,17 +171,19 @@ module _ (s u : List ℕ) (k : ℕ) (agree : (i : ℕ) → i < k → i < length 
     many-alike n zero at = found-alike nil (omega arith)
     many-alike n (suc c) at = then-alike (p n at) (next n at) (λ t to. made-alike (many (p n) c to) (cons t) (many-alike n c to))
 
-    arms-alike : (n c at : ℕ) → Alike s k at (armsOf s p n c at) (armsOf u p' n c at)
+    arms-alike : (before : List (ℕ × ℕ)) (n c at : ℕ) → Alike s k at (armsOf s p before n c at) (armsOf u p' before n c at)
     unfolding armsOf
-    arms-alike n zero at = found-alike none (omega arith)
-    arms-alike n (suc c) at = from (omega arith) (word-alike at (λ w l. head-alike atArm w at l (λ r.
-        then-alike (second s (at + 1)) (from (omega arith) (second-alike (at + 1))) (λ m to. then-alike (p (n + m) to) (next (n + m) to)
-        (λ b past. made-alike (armsOf s p n c past) (arm (w % 256) m b) (arms-alike n c past))))))
+    arms-alike before n zero at = found-alike none (omega arith)
+    arms-alike before n (suc c) at = from (omega arith) (word-alike at (λ w l. head-alike atArm w at l (λ r.
+        then-alike (unlike s before (w % 256) (at + 1)) (from (omega arith) (unlike-alike before (w % 256) (at + 1)))
+        (λ m to. then-alike (p (n + m) to) (next (n + m) to) (λ b past.
+        let more = before ++ ((w % 256, m) ∷ []) in
+        made-alike (armsOf s p more n c past) (arm (w % 256) m b) (arms-alike more n c past))))))
 
     opened-alike : (n at a o : ℕ) (f : Parts) → at < length s → Alike s k (at + 1) (opened s p n at a o f) (opened u p' n at a o f)
     unfolding opened
     opened-alike n at a o Nothing l =
-        test-alike (ltb a n) (found-alike (var a) (omega arith)) (fault-alike 7 (omega arith) (omega arith) l (omega arith))
+        test-alike (ltb a n) (found-alike (var a) (omega arith)) (fault-alike (of-rule {e = 7} (omega arith) (omega arith)) l (omega arith))
     opened-alike n at a o Body l = made-alike (p (n + a + o) (at + 1)) (fun o a) (next _ _)
     opened-alike n at a o FunctionAndArguments l =
         then-alike (p n (at + 1)) (next _ _) (λ f to. made-alike (many (p n) a to) (call f) (many-alike n a to))
@@ -163,12 +191,12 @@ module _ (s u : List ℕ) (k : ℕ) (agree : (i : ℕ) → i < k → i < length 
     opened-alike n at a o CountAndArguments l =
         then-alike (second s (at + 1)) (from (omega arith) (second-alike (at + 1))) (λ m to. made-alike (many (p n) m to) (con a) (many-alike n m to))
     opened-alike n at a o SubjectAndArms l =
-        then-alike (p n (at + 1)) (next _ _) (λ m to. made-alike (armsOf s p n a to) (cases m) (arms-alike n a to))
-    opened-alike n at a o ArityAndBody l = fault-alike 4 (omega arith) (omega arith) l (omega arith)
+        then-alike (p n (at + 1)) (next _ _) (λ m to. made-alike (armsOf s p [] n a to) (cases m) (arms-alike [] n a to))
+    opened-alike n at a o ArityAndBody l = fault-alike (of-rule {e = 4} (omega arith) (omega arith)) l (omega arith)
 
   term-alike : (d n at : ℕ) → Alike s k (at + 1) (term s d n at) (term u d n at)
   unfolding term
-  term-alike zero n at = word-alike at (λ w l. fault-alike 6 (omega arith) (omega arith) l (omega arith))
+  term-alike zero n at = word-alike at (λ w l. fault-alike (of-rule {e = 6} (omega arith) (omega arith)) l (omega arith))
   term-alike (suc d) n at = word-alike at (λ w l. head-alike atTerm w at l (λ r.
       opened-alike (term s d) (term u d) (term-alike d) n at (w % 256) (r .binds) (r .parts) l))
 
@@ -182,7 +210,7 @@ ended-told s (fault d i) {e} {p} x h = go x (cc) (cc)
 ended-told s (found t to) {e} {p} x h = go (ltb to (length s)) refl h
   where
     go : (b : Bool) → ltb to (length s) ≡ b → cond b (fault 8 to) (found t to) ≡ fault e p → Told s e p
-    go true b k = let x : _≡_ {A = ℕ} 8 e = cc in let y : to ≡ p = cc in tests {e = e} {p = p} (omega arith) (omega arith) (omega (arith, ltb-true to (length s) b))
+    go true b k = let x : _≡_ {A = ℕ} 8 e = cc in let y : to ≡ p = cc in tests {e = e} {p = p} (of-rule {e = e} (omega arith) (omega arith)) (omega (arith, ltb-true to (length s) b))
     go false b k = never cc
 
 -- and what the words of another table come to that agree with it up to the place
@@ -233,13 +261,13 @@ reading-refused (fault e p) h = cc
 
 placed : {ws : List ℕ} {e p : ℕ} → length ws ≤ mostWords → whole ws ≡ fault e p → Told ws e p → Placed ws e p
 placed l h ends = of-end l
-placed {ws} {e} {p} l h (tests m n i) = of-word l m n i same
+placed {ws} {e} {p} l h (tests m i) = of-word l m i same
   where
     same : (more : List ℕ) → length (take (p + 1) ws ++ more) ≤ mostWords → read (take (p + 1) ws ++ more) ≡ refused e p
     same more few =
         let some : length (take (p + 1) ws ++ more) ≡ 0 → ⊥
         = λ z. omega (arith, length-append (take (p + 1) ws) more, length-take-le (p + 1) ws (omega arith)) in
-        read-whole (take (p + 1) ws ++ more) some few ∙ ap reading (whole-same ws more h m i)
+        read-whole (take (p + 1) ws ++ more) some few ∙ ap reading (whole-same ws more h (past-three m) i)
 
 pub places-help : PlacesHelp
 unfolding read closed then

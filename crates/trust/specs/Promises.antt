@@ -3,9 +3,12 @@ use Prim.Native.Nat.{ℕ, _+_, _<_, _≤_, _^_}
 use mathlib.Core.Path.{_≡_}
 use mathlib.Core.List.{List, _++_}
 use lib.ListN.{length, getD, take}
-use Rattle.language.specs.Term.{Lang, rules, images, Term}
+use mathlib.Core.Option.{some}
+use Rattle.language.specs.Term.{Lang, rules, images, Term, Arms, arm, size}
 use Rattle.language.specs.Words.{words}
 use Rattle.language.specs.Limits.{mostWords, Ranged, Rule}
+use Rattle.language.specs.Run.{took}
+use Rattle.language.specs.Dead.{behind, Taken, Live}
 use Rattle.language.specs.Image.{image}
 use Rattle.language.specs.Read.{noPlace, read, accepted, refused}
 
@@ -17,18 +20,33 @@ AcceptedAreRules = (ws : List ℕ) (t : Term) → read ws ≡ accepted t → (ws
 abbrev pub RulesAreAccepted : Type 0
 RulesAreAccepted = (t : Term) → Rule t → read (words rules t) ≡ accepted t
 
+-- the refusals that test a word given: 4 to 8, and Wish 4's "18, with its place"
+pub data OfWord : ℕ → Type 0 where
+  of-rule : {e : ℕ} → 4 ≤ e → e ≤ 8 → OfWord e
+  of-dead-arm : OfWord 18
+
 -- what the place of a refusal tells its reader. of-length: 1 and 2, which test no word. of-end: "3 carries the number of words given". of-word: "the
 -- place of the word tested" is that of a word given, and the words up to it decide: whatever follows them, in at most 4,096 words, the refusal is the
 -- same
 pub data Placed (ws : List ℕ) : ℕ → ℕ → Type 0 where
   of-length : {e : ℕ} → 1 ≤ e → e ≤ 2 → Placed ws e noPlace
   of-end : length ws ≤ mostWords → Placed ws 3 (length ws)
-  of-word : {e p : ℕ} → length ws ≤ mostWords → 4 ≤ e → e ≤ 8 → p < length ws
+  of-word : {e p : ℕ} → length ws ≤ mostWords → OfWord e → p < length ws
       → ((more : List ℕ) → length (take (p + 1) ws ++ more) ≤ mostWords → read (take (p + 1) ws ++ more) ≡ refused e p) → Placed ws e p
 
 -- document 02, Wish 1: "Show the author the word."
 abbrev pub PlacesHelp : Type 0
 PlacesHelp = (ws : List ℕ) (e p : ℕ) → read ws ≡ refused e p → Placed ws e p
+
+-- document 02, Wish 4: "No dead arms." In an accepted rule every arm of every match can be taken
+abbrev pub ArmsCanBeTaken : Type 0
+ArmsCanBeTaken = (ws : List ℕ) (t : Term) → read ws ≡ accepted t → Live t
+
+-- and the value by which an arm can be taken takes it in its match, whatever arms stand behind it
+abbrev pub TakenInItsMatch : Type 0
+TakenInItsMatch =
+    (before after : Arms) (t n : ℕ) (b : Term) (x : Taken before t n b)
+    → took (x .tag) (size (x .arguments)) (behind before (arm t n b after)) ≡ some b
 
 -- "16-bit words": one more than the highest word
 abbrev pub wordEnd : ℕ

@@ -7,11 +7,11 @@ use Rattle.reading.proofs.arity_at.Tie as tie
 returns : tie.Need-returns
 returns c = search ways
 
-mul-look : tie.Need-mul-look
-mul-look c = search ways
+mul-w : tie.Need-mul-w
+mul-w c = search ways
 
-shared-slice-read-look : tie.Need-shared-slice-read-look
-shared-slice-read-look c = search ways
+shared-slice-read-w : tie.Need-shared-slice-read-w
+shared-slice-read-w c = search ways
 
 look-requires : tie.Need-look-requires
 look-requires c κs = search ways
@@ -22,11 +22,11 @@ enum-known-e c = search ways
 enum-told : tie.Need-enum-told
 enum-told c = search ways
 
-add-second-at : tie.Need-add-second-at
-add-second-at c = search ways
+add-unlike-at : tie.Need-add-unlike-at
+add-unlike-at c = search ways
 
-second-at-requires : tie.Need-second-at-requires
-second-at-requires c κs = search ways
+unlike-at-requires : tie.Need-unlike-at-requires
+unlike-at-requires c κs = search ways
 
 returns-2 : tie.Need-returns-2
 returns-2 c = search ways
@@ -39,12 +39,12 @@ arity-at-spec =
     tie.close
     (tie.spec
     returns
-    mul-look
-    shared-slice-read-look
+    mul-w
+    shared-slice-read-w
     look-requires
     enum-known-e
     enum-told
-    add-second-at
-    second-at-requires
+    add-unlike-at
+    unlike-at-requires
     returns-2
     returns-3)

@@ -5,36 +5,46 @@
 use Prim.Native.Nat.{ℕ, _+_, _*_, _<_}
 use borrow.Fn.Kinds.{In}
 use borrow.Fn.PlainCycle.{Measures, is, falls, and}
+use Rattle.reading.proofs.all_arms_at.Reads as all-arms-at
+use Rattle.reading.proofs.all_arms_at.Kinds as all-arms-at-kinds
+use Rattle.reading.proofs.+all_arms_at+arms_at+opened_at+term_at+terms_at.Lts-all_arms_at as all-arms-at-lts
 use Rattle.reading.proofs.arms_at.Reads as arms-at
 use Rattle.reading.proofs.arms_at.Kinds as arms-at-kinds
-use Rattle.reading.proofs.+arms_at+opened_at+term_at+terms_at.Lts-arms_at as arms-at-lts
+use Rattle.reading.proofs.+all_arms_at+arms_at+opened_at+term_at+terms_at.Lts-arms_at as arms-at-lts
 use Rattle.reading.proofs.opened_at.Reads as opened-at
 use Rattle.reading.proofs.opened_at.Kinds as opened-at-kinds
-use Rattle.reading.proofs.+arms_at+opened_at+term_at+terms_at.Lts-opened_at as opened-at-lts
+use Rattle.reading.proofs.+all_arms_at+arms_at+opened_at+term_at+terms_at.Lts-opened_at as opened-at-lts
 use Rattle.reading.proofs.term_at.Reads as term-at
 use Rattle.reading.proofs.term_at.Kinds as term-at-kinds
-use Rattle.reading.proofs.+arms_at+opened_at+term_at+terms_at.Lts-term_at as term-at-lts
+use Rattle.reading.proofs.+all_arms_at+arms_at+opened_at+term_at+terms_at.Lts-term_at as term-at-lts
 use Rattle.reading.proofs.terms_at.Reads as terms-at
 use Rattle.reading.proofs.terms_at.Kinds as terms-at-kinds
-use Rattle.reading.proofs.+arms_at+opened_at+term_at+terms_at.Lts-terms_at as terms-at-lts
+use Rattle.reading.proofs.+all_arms_at+arms_at+opened_at+term_at+terms_at.Lts-terms_at as terms-at-lts
 use Rattle.language.proofs.look.Reads as look-reads
 use Rattle.reading.proofs.arity_at.Reads as arity-at-reads
 use Rattle.reading.proofs.built.Reads as built-reads
 use Rattle.reading.proofs.grown.Reads as grown-reads
 use Rattle.reading.proofs.joined.Reads as joined-reads
+use Rattle.reading.proofs.mark.Reads as mark-reads
 use Rattle.reading.proofs.second_at.Reads as second-at-reads
-use Rattle.reading.proofs.+arms_at+opened_at+term_at+terms_at.{statement}
-use Rattle.reading.proofs.+arms_at+opened_at+term_at+terms_at.Tie.{close}
+use Rattle.reading.proofs.+all_arms_at+arms_at+opened_at+term_at+terms_at.{statement}
+use Rattle.reading.proofs.+all_arms_at+arms_at+opened_at+term_at+terms_at.Tie.{close}
 use native.Mathlib.Omega.{arith}
+use lib.ListN.{length-set}
+use Rattle.language.specs.Kinds.{mostByte}
 use Rattle.reading.specs.Steps.{aWord}
 use Rattle.reading.proofs.Sums.{sums}
+use Rattle.reading.proofs.Marks.{l-front}
 use Rattle.reading.proofs.Ways.{ways}
 
 abbrev level : ℕ
 level = 2 * aWord
 
-abbrev μ-arms-at : Measures 1 arms-at-kinds.ps ℕ
-μ-arms-at κs a = level * a .1 .1 .0 + a .1 .1 .1 .1 .0
+abbrev μ-all-arms-at : Measures 1 all-arms-at-kinds.ps ℕ
+μ-all-arms-at κs a = level * a .1 .1 .0 + mostByte
+
+abbrev μ-arms-at : Measures 2 arms-at-kinds.ps ℕ
+μ-arms-at κs a = level * a .1 .1 .1 .1 .0 + a .1 .1 .1 .1 .1 .1 .0
 
 abbrev μ-opened-at : Measures 1 opened-at-kinds.ps ℕ
 μ-opened-at κs a = level * a .1 .1 .0 + aWord
@@ -45,11 +55,17 @@ abbrev μ-term-at : Measures 1 term-at-kinds.ps ℕ
 abbrev μ-terms-at : Measures 1 terms-at-kinds.ps ℕ
 μ-terms-at κs a = level * a .1 .1 .0 + a .1 .1 .1 .1 .0
 
-abbrev arms-at-at : ℕ → In 1 arms-at-kinds.ps
-arms-at-at t = and 1 arms-at-kinds.ps (is 1 arms-at-kinds.ps μ-arms-at t) arms-at.Pre
+abbrev all-arms-at-at : ℕ → In 1 all-arms-at-kinds.ps
+all-arms-at-at t = and 1 all-arms-at-kinds.ps (is 1 all-arms-at-kinds.ps μ-all-arms-at t) all-arms-at.Pre
 
-abbrev arms-at-below : ℕ → In 1 arms-at-kinds.ps
-arms-at-below t = and 1 arms-at-kinds.ps (falls 1 arms-at-kinds.ps _<_ μ-arms-at t) arms-at.Pre
+abbrev all-arms-at-below : ℕ → In 1 all-arms-at-kinds.ps
+all-arms-at-below t = and 1 all-arms-at-kinds.ps (falls 1 all-arms-at-kinds.ps _<_ μ-all-arms-at t) all-arms-at.Pre
+
+abbrev arms-at-at : ℕ → In 2 arms-at-kinds.ps
+arms-at-at t = and 2 arms-at-kinds.ps (is 2 arms-at-kinds.ps μ-arms-at t) arms-at.Pre
+
+abbrev arms-at-below : ℕ → In 2 arms-at-kinds.ps
+arms-at-below t = and 2 arms-at-kinds.ps (falls 2 arms-at-kinds.ps _<_ μ-arms-at t) arms-at.Pre
 
 abbrev opened-at-at : ℕ → In 1 opened-at-kinds.ps
 opened-at-at t = and 1 opened-at-kinds.ps (is 1 opened-at-kinds.ps μ-opened-at t) opened-at.Pre
@@ -69,10 +85,15 @@ terms-at-at t = and 1 terms-at-kinds.ps (is 1 terms-at-kinds.ps μ-terms-at t) t
 abbrev terms-at-below : ℕ → In 1 terms-at-kinds.ps
 terms-at-below t = and 1 terms-at-kinds.ps (falls 1 terms-at-kinds.ps _<_ μ-terms-at t) terms-at.Pre
 
+abbrev all-arms-at-calls : ℕ → all-arms-at-lts.Claims
+all-arms-at-calls t = (arms-at-below t, arms-at.Post)
+
 abbrev arms-at-calls : ℕ → arms-at-lts.Claims
 arms-at-calls t = (
   arity-at-reads.Asked,
   arity-at-reads.Learnt,
+  mark-reads.Asked,
+  mark-reads.Learnt,
   term-at-below t,
   term-at.Post,
   arms-at-below t,
@@ -93,8 +114,8 @@ opened-at-calls t = (
   second-at-reads.Learnt,
   built-reads.Asked,
   built-reads.Learnt,
-  arms-at-below t,
-  arms-at.Post,
+  all-arms-at-below t,
+  all-arms-at.Post,
 )
 
 abbrev term-at-calls : ℕ → term-at-lts.Claims
@@ -103,28 +124,33 @@ term-at-calls t = (look-reads.Asked, look-reads.Learnt, opened-at-below t, opene
 abbrev terms-at-calls : ℕ → terms-at-lts.Claims
 terms-at-calls t = (term-at-below t, term-at.Post, terms-at-below t, terms-at.Post, joined-reads.Asked, joined-reads.Learnt)
 
-pub +arms-at+opened-at+term-at+terms-at-spec : {M : Type 1} → statement M
-+arms-at+opened-at+term-at+terms-at-spec =
-    close μ-arms-at μ-opened-at μ-term-at μ-terms-at
+pub +all-arms-at+arms-at+opened-at+term-at+terms-at-spec : {M : Type 1} → statement M
++all-arms-at+arms-at+opened-at+term-at+terms-at-spec =
+    close μ-all-arms-at μ-arms-at μ-opened-at μ-term-at μ-terms-at
+    (λ t. all-arms-at-lts.spec (all-arms-at-calls t) (all-arms-at-at t) all-arms-at.Post
+    (λ c. search ways) (λ c κs. search ways) (λ c. search ways))
     (λ t. arms-at-lts.spec (arms-at-calls t) (arms-at-at t) arms-at.Post
-    (λ c. search ways) (λ c κs. search ways) (λ c. search ways) (λ c. search ways) (λ c. search ways) (λ c. search ways)
-    (λ c κs. search ways) (λ c. search ways) (λ c. search ways) (λ c. search ways) (λ c κs. search ways)
-    (λ c κs. search ways) (λ c. search ways) (λ c. search ways) (λ c. search ways))
+    (λ c. search ways) (λ c. search ways) (λ c. l-front _ _ (omega arith)) (λ c κs. search ways) (λ c. search ways)
+    (λ c. search ways) (λ c. search ways) (λ c. search ways) (λ c κs. search ways) (λ c. search ways) (λ c. search ways)
+    (λ c. search ways) (λ c. search ways) (λ c κs. search ways) (λ c. search ways) (λ c. search ways) (λ c. search ways)
+    (λ c. search ways) (λ c κs. (omega arith, (simp length-set (omega arith), omega arith, omega arith)))
+    (λ c κs. search ways) (λ c. search ways) (λ c. search ways) (λ c. search ways) (λ c. search ways) (λ c. search ways)
+    (λ c. search ways))
     (λ t. opened-at-lts.spec (opened-at-calls t) (opened-at-at t) opened-at.Post
-    (λ c. search ways) (λ c. search ways) (λ c. search ways) (λ c. search ways) (λ c. search ways) (λ c. search ways) (λ c κs. search ways)
-    (λ c κs. search ways) (λ c. search ways) (λ c κs. search ways) (λ c. search ways) (λ c. search ways)
+    (λ c. search ways) (λ c. search ways) (λ c. search ways) (λ c. search ways) (λ c. search ways) (λ c. search ways)
     (λ c κs. search ways) (λ c κs. search ways) (λ c. search ways) (λ c κs. search ways) (λ c. search ways)
-    (λ c. search ways) (λ c. search ways) (λ c κs. search ways) (λ c κs. search ways) (λ c. search ways)
+    (λ c. search ways) (λ c κs. search ways) (λ c κs. search ways) (λ c. search ways) (λ c κs. search ways)
+    (λ c. search ways) (λ c. search ways) (λ c. search ways) (λ c κs. search ways) (λ c κs. search ways) (λ c. search ways)
     (λ c κs. search ways) (λ c. search ways) (λ c. search ways) (λ c. search ways) (λ c κs. search ways) (λ c. search ways)
     (λ c κs. search ways) (λ c. search ways) (λ c κs. search ways) (λ c. search ways) (λ c. search ways)
-    (λ c κs. search ways) (λ c κs. search ways) (λ c. search ways) (λ c. search ways) (λ c. search ways) (λ c. search ways)
+    (λ c κs. (omega arith, (omega arith, omega arith, search ways))) (λ c κs. search ways) (λ c. search ways)
     (λ c. search ways) (λ c. search ways) (λ c. search ways) (λ c. search ways) (λ c. search ways) (λ c. search ways)
-    (λ c. search ways) (λ c. search ways) (λ c. search ways))
+    (λ c. search ways) (λ c. search ways) (λ c. search ways) (λ c. search ways) (λ c. search ways) (λ c. search ways))
     (λ t. term-at-lts.spec (term-at-calls t) (term-at-at t) term-at.Post
     (λ c. search ways) (λ c. search ways) (λ c. search ways) (λ c. search ways) (λ c κs. search ways) (λ c. search ways)
     (λ c. search ways) (λ c. search ways) (λ c. search ways)
-    (λ c κs. (omega arith, (omega arith, omega arith, omega arith, omega arith, search sums))) (λ c. search ways)
-    (λ c. search ways))
+    (λ c κs. (omega arith, (omega arith, omega arith, omega arith, omega arith, search sums, search sums)))
+    (λ c. search ways) (λ c. search ways))
     (λ t. terms-at-lts.spec (terms-at-calls t) (terms-at-at t) terms-at.Post
     (λ c. search ways) (λ c κs. search ways) (λ c. search ways) (λ c. search ways) (λ c. search ways) (λ c κs. search ways)
     (λ c κs. search ways) (λ c. search ways) (λ c. search ways))
