@@ -8,9 +8,6 @@ ghost use Rattle.atoms.specs.Standing.{term, terms, arms, Stands, Ends, 
 // The words before the parts of a constructor and before the body of an arm: a head, and a count.
 pub const HEAD_AND_COUNT: usize = 2;
 
-// A head's number is its low byte, the remainder by this.
-pub const LOW_BYTE: u16 = 256;
-
 // What a test for atoms finds: the place after what stands there, where all of it is atoms.
 pub enum Found {
     Atoms(usize),
@@ -42,7 +39,7 @@ fn skip(s: &[u16], at: usize, depth: usize) -> usize
     ensures { λ r. ⌜ Ends (term depth) (now (s .entry)) at r ⌝ }
 {
     let parts = parts_at(s, at, depth);
-    let low = (s[at] % LOW_BYTE) as usize;
+    let low = (s[at] % language::LOW_BYTE) as usize;
     let next = at + 1;
     let left = depth - 1;
     match parts {

@@ -8,6 +8,9 @@ pub const MOST_ARGUMENTS: u8 = 8;
 // The most arms of a match.
 pub const MOST_ARMS: u8 = 32;
 
+// A head's number is its low byte, the remainder by this.
+pub const LOW_BYTE: u16 = 256;
+
 // The levels of terms that a rule may have.
 pub const DEEPEST: usize = 64;
 
@@ -168,7 +171,7 @@ pub enum Answer {
 fn row_of(w: u16) -> Row
     ensures { λ r. ⌜ r ≡ rowOf w ⌝ }
 {
-    let kind = (w / 256) as usize;
+    let kind = (w / LOW_BYTE) as usize;
     if kind < KINDS_COUNT {
         return KINDS[kind];
     }
@@ -180,7 +183,7 @@ pub fn look(q: u8, w: u16) -> Head
     ensures { λ r. ⌜ r ≡ headOf q w ⌝ }
 {
     let row = row_of(w);
-    let low = (w % 256) as u8;
+    let low = (w % LOW_BYTE) as u8;
     if row.stands != q {
         return Head::Refused(WRONG_KIND);
     }

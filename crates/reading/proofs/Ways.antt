@@ -1,6 +1,6 @@
 -- One law for each way out of the reading functions: what was tested and called on the way, in the code's own form, and the answer that is then
 -- right. `search ways` finds a law's premises in what is known where the code returns. A law's first letter says of which function: g grown, j joined,
--- b built, c second_at, u unlike_at, h arity_at, t term_at, p opened_at, l terms_at, a arms_at.
+-- b built, t term_at, p opened_at, l terms_at, a arms_at.
 -- Assumes nothing.
 use Prim.Native.Nat.{ℕ, zero, suc, _+_, _-_, _*_, _/_, _%_, _<_, _≤_}
 use mathlib.Core.Path.{_≡_, refl, _∙_}
@@ -25,15 +25,16 @@ use Rattle.language.specs.declared.Head.{Head}
 use Rattle.language.specs.declared.Head.the-variants.{Refused, Opens}
 use Rattle.sizes.specs.Lengths.{passingLengths}
 use Rattle.sizes.proofs.Lengths.{of-var, of-fun, of-call, of-bind, of-cases, of-none, of-arm}
-use Rattle.trust.proofs.Accepted.{holds-found, second-good, unlike-good}
 use Rattle.reading.specs.Steps.{variableWords, functionWords, callWords, letWords, constructorWords, matchWords, armWords, chainedWords, savedWords}
-use Rattle.reading.specs.Steps.{chainLength, stepOf, termStep, termsStep, armsStep, FewArms, markOf, unmarked, arity, countOf, grownOf, joinedOf, builtOf}
+use Rattle.reading.specs.Steps.{chainLength, stepOf, termStep, termsStep, armsStep, FewArms, grownOf, joinedOf, builtOf}
 use Rattle.reading.specs.declared.Step.{Step}
 use Rattle.reading.specs.declared.Step.the-variants.{Next, No}
-use Rattle.reading.specs.declared.Count.{Count}
-use Rattle.reading.specs.declared.Count.the-variants.{Is, Not}
+use Rattle.arities.specs.declared.Count.{Count}
+use Rattle.arities.specs.declared.Count.the-variants.{Is, Not}
+use Rattle.arities.specs.Marks.{markOf, unmarked, arity, countOf}
+use Rattle.arities.proofs.Marks.{marked-more, l-front, l-stored, l-kept}
+use Rattle.arities.proofs.Ways.{is-found, is-fault, arity-known, a-there, arity-then}
 use Rattle.reading.proofs.Sums.{sums}
-use Rattle.reading.proofs.Marks.{marked-more, l-front, l-stored, l-kept}
 use Rattle.language.proofs.Clash.{never}
 use Rattle.reading.proofs.Steps.{came, stops, goes, grows, of-cons, of-construct}
 
@@ -71,68 +72,6 @@ module _ {r : Step} {to y : ℕ} {c : Bool} (h : r ≡ Next to c y) where
   pub b-others : (m : ℕ) → c ≡ false → Next to c (y + constructorWords) ≡ builtOf m r
   unfolding builtOf
   b-others m q = rw (h, q)
-
--- a second word
-module _ (s : List ℕ) (at : ℕ) where
-  pub c-none : length s ≤ at → Not 3 (length s) ≡ countOf (second s at)
-  unfolding second countOf
-  c-none h = simp (le-ltb _ _ h)
-
-  pub c-high : at < length s → mostArguments < getD s at 0 → Not 5 at ≡ countOf (second s at)
-  unfolding second countOf
-  c-high h k = simp (lt-ltb _ _ h, lt-leb _ _ k)
-
-  pub c-is : at < length s → getD s at 0 ≤ mostArguments → Is (getD s at 0) (at + 1) ≡ countOf (second s at)
-  unfolding second countOf
-  c-is h k = simp (lt-ltb _ _ h, le-leb _ _ k)
-
--- what a count says of the reading that it answers for
-is-found : (g : Got ℕ) {y : Count} {m to : ℕ} → y ≡ countOf g → y ≡ Is m to → g ≡ found m to
-unfolding countOf
-is-found (found n i) h k = cc
-is-found (fault e p) h k = never cc
-
-is-fault : (g : Got ℕ) {y : Count} {e p : ℕ} → y ≡ countOf g → y ≡ Not e p → g ≡ fault e p
-unfolding countOf
-is-fault (found n i) h k = never cc
-is-fault (fault e p) h k = cc
-
--- an arm's second word
-module _ (s : List ℕ) (at w : ℕ) (before : List (ℕ × ℕ)) {y : Count} (e : y ≡ countOf (second s at)) where
-  pub u-not : {b p : ℕ} → y ≡ Not b p → Not b p ≡ countOf (unlike s before (w % 256) at)
-  unfolding unlike then countOf
-  u-not i = rw (is-fault (second s at) e i)
-
-  module _ {m to : ℕ} (i : y ≡ Is m to) {x : ℕ} (q : x ≡ markOf w m) {b : Bool} (d : b ≡ dead (x / 256) (x % 256) before) where
-    tested : b ≡ dead (w % 256) m before
-    tested =
-        let l = holds-found (second-good s at) (is-found _ e i) .most in
-        let t : x / 256 ≡ w % 256 = omega arith in
-        let n : x % 256 ≡ m = omega arith in
-        rw (← t, ← n) d
-
-    pub u-dead : b ≡ true → Not 18 at ≡ countOf (unlike s before (w % 256) at)
-    unfolding unlike then countOf
-    u-dead h = rw (is-found (second s at) e i, ← tested, h)
-
-    pub u-is : b ≡ false → Is m to ≡ countOf (unlike s before (w % 256) at)
-    unfolding unlike then countOf
-    u-is h = rw (is-found (second s at) e i, ← tested, h)
-
--- an arm's two words
-module _ (s : List ℕ) (before : List (ℕ × ℕ)) (at : ℕ) where
-  pub h-none : length s ≤ at → Not 3 (length s) ≡ countOf (arity s before at)
-  unfolding arity countOf
-  h-none h = simp (le-ltb _ _ h)
-
-  module _ (h : at < length s) {r : Head} (e : r ≡ headOf atArm (getD s at 0)) where
-    pub h-refused : {b : ℕ} → r ≡ Refused b → Not b at ≡ countOf (arity s before at)
-    unfolding arity countOf
-    h-refused i = simp (lt-ltb _ _ h, ← e, i)
-
-    pub h-second : {f : Row} {x : Count} → r ≡ Opens f → x ≡ countOf (unlike s before (getD s at 0 % 256) (at + 1)) → x ≡ countOf (arity s before at)
-    unfolding arity
-    h-second i k = simp (lt-ltb _ _ h, ← e, i) k
 
 -- a term, up to its head
 pub t-none : (s : List ℕ) (d n at : ℕ) → length s ≤ at → No 3 (length s) ≡ termStep (term s d n at)
@@ -232,41 +171,12 @@ module _ (p : ℕ → Got Term) (k at : ℕ) where
     l-more e i m u = came _ _ (many-more p k at z) (goes _ _ _ _ _ _ e i (λ t o w. of-cons t _ o w m u))
 
 -- arms
-module _ (s : List ℕ) (before : List (ℕ × ℕ)) (at : ℕ) (f : ℕ → ℕ → Got Arms) where
-  arity-then : word s at (λ w. headed (headOf atArm w) at (λ r. then (unlike s before (w % 256) (at + 1)) f)) ≡ then (arity s before at) f
-  unfolding arity then
-  arity-then = go (ltb at (length s)) (headOf atArm (getD s at 0))
-    where
-      second-word : Got ℕ
-      second-word = unlike s before (getD s at 0 % 256) (at + 1)
-
-      go : (b : Bool) (h : Head) → cond b (headed h at (λ r. then second-word f)) (fault 3 (length s))
-          ≡ then (cond b (headed h at (λ r. second-word)) (fault 3 (length s))) f
-      go true (Refused e) = refl
-      go true (Opens r) = refl
-      go false h = refl
-
 armed : (s : List ℕ) (p : ℕ → ℕ → Got Term) (before : List (ℕ × ℕ)) (n k at : ℕ) → (k ≡ 0 → ⊥)
     → armsOf s p before n k at ≡ then (arity s before at) (λ m to. then (p (n + m) to) (λ b past. made (arm (getD s at 0 % 256) m b)
     (armsOf s p (before ++ ((getD s at 0 % 256, m) ∷ [])) n (k - 1) past)))
 unfolding armsOf
 armed s p before n zero at z = absurd (z refl)
 armed s p before n (suc k) at z = simp sub-one (arity-then s before at _)
-
--- what an arm's two words tell where they are read
-arity-known : (s : List ℕ) (before : List (ℕ × ℕ)) (at : ℕ) {m to : ℕ} → arity s before at ≡ found m to → (at < length s) × (m ≤ mostArguments)
-unfolding arity
-arity-known s before at {m} {to} e = go (ltb at (length s)) (ltb-true at (length s)) (headOf atArm (getD s at 0)) e
-  where
-    go : (b : Bool) → (b ≡ true → at < length s) → (h : Head)
-        → cond b (headed h at (λ r. unlike s before (getD s at 0 % 256) (at + 1))) (fault 3 (length s)) ≡ found m to → (at < length s) × (m ≤ mostArguments)
-    go true l (Refused b) e = never cc
-    go true l (Opens r) e = (l refl, holds-found (unlike-good s before (getD s at 0 % 256) (at + 1)) e .second .most)
-    go false l h e = never cc
-
-module _ (s : List ℕ) (before : List (ℕ × ℕ)) (at : ℕ) {y : Count} (c : y ≡ countOf (arity s before at)) {m i : ℕ} (l : y ≡ Is m i) where
-  pub a-there : at < length s
-  a-there = arity-known s before at (is-found _ c l) .0
 
 module _ (s : List ℕ) (p : ℕ → ℕ → Got Term) (ms : List ℕ) (j n k at : ℕ) where
   pub a-end : k ≡ 0 → Next at false 0 ≡ armsStep (armsOf s p (unmarked (take j ms)) n k at)
@@ -311,15 +221,6 @@ pub ruleset ways = (
   j-other,
   b-atoms,
   b-others,
-  c-none,
-  c-high,
-  c-is,
-  h-none,
-  h-refused,
-  h-second,
-  u-not,
-  u-dead,
-  u-is,
   t-none,
   t-deep,
   t-refused,

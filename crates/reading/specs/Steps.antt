@@ -1,20 +1,17 @@
 -- What the reading functions say of what they read, and how they put it together: the place after a thing, whether it is all atoms, and
 -- how many words it has in an image.
-use Prim.Native.Nat.{ℕ, _+_, _-_, _*_, _/_, _%_, _≤_}
+use Prim.Native.Nat.{ℕ, _+_, _-_, _*_, _≤_}
 use mathlib.Core.Path.{_≡_}
 use mathlib.Core.Bool.{Bool, false, cond, _&&_}
-use mathlib.Core.List.{List, map}
 use Rattle.language.specs.Term.{Term, Terms, Arms, size}
 use Rattle.language.specs.Run.{atom, atoms}
-use Rattle.language.specs.Kinds.{mostArms, atArm, headOf}
-use Rattle.language.specs.Read.{Got, found, fault, word, headed, unlike}
+use Rattle.language.specs.Kinds.{mostArms}
+use Rattle.language.specs.Read.{Got, found, fault}
 use Rattle.language.specs.declared.Parts.{Parts}
 use Rattle.language.specs.declared.Parts.the-variants.{SubjectAndArms}
 use Rattle.sizes.specs.Lengths.{passingLength, passingLengths, armLengths}
 use Rattle.reading.specs.declared.Step.{Step}
 use Rattle.reading.specs.declared.Step.the-variants.{Next, No}
-use Rattle.reading.specs.declared.Count.{Count}
-use Rattle.reading.specs.declared.Count.the-variants.{Is, Not}
 
 -- how many numbers a word can hold; no more source variables does one level of terms bind
 abbrev pub aWord : ℕ
@@ -75,25 +72,9 @@ termsStep g = stepOf atoms chainLength g
 abbrev pub armsStep : Got Arms → Step
 armsStep g = stepOf (λ _. false) armLengths g
 
--- an arm's mark: the low bytes of its two words, its tag and its arity, in one word; and the tags and arities of arms with these marks
-abbrev pub markOf : ℕ → ℕ → ℕ
-markOf w m = w % 256 * 256 + m % 256
-
-unfoldable pub unmarked : List ℕ → List (ℕ × ℕ)
-unmarked ms = map (λ x. (x / 256, x % 256)) ms
-
--- an arm's two words, behind arms with the tags and arities `before`: the second, where the first is an arm's head
-unfoldable pub arity : List ℕ → List (ℕ × ℕ) → ℕ → Got ℕ
-arity s before at = word s at (λ w. headed (headOf atArm w) at (λ r. unlike s before (w % 256) (at + 1)))
-
 -- the low byte a of a head with the parts f: of a match it is no more than the arms that a match may have
 pub record FewArms (f : Parts) (a : ℕ) : Type 0 where
   pub few : f ≡ SubjectAndArms → a ≤ mostArms
-
--- a count that was read, or the fault
-unfoldable pub countOf : Got ℕ → Count
-countOf (found m to) = Is m to
-countOf (fault e p) = Not e p
 
 -- the words that a step counts
 unfoldable pub wordsOf : Step → ℕ

@@ -1,17 +1,19 @@
 // Reads a rule: one forward pass checks its words and measures its image. Terms, lists and arms are read through each other.
+use arities::Count;
 use language::Answer;
 use language::Head;
+use language::LOW_BYTE;
 use language::Parts;
 use language::Row;
 ghost use mathlib.Core.Path.{_≡_};
-ghost use Prim.Native.Nat.{_+_, _*_, _/_, _%_, _≤_, _<_};
+ghost use Prim.Native.Nat.{_+_, _*_, _≤_, _<_};
 ghost use mathlib.Core.List.{[]};
 ghost use lib.ListN.{length, take};
 ghost use Rattle.language.specs.Kinds.{mostArms, mostByte};
-ghost use Rattle.language.specs.Dead.{dead};
-ghost use Rattle.language.specs.Read.{second, many, unlike, armsOf, opened, term, closed, read};
+ghost use Rattle.language.specs.Read.{many, armsOf, opened, term, closed, read};
 ghost use Rattle.language.specs.Calls.{replyOf, checked, measured};
-ghost use Rattle.reading.specs.Steps.{aWord, small, termStep, termsStep, armsStep, FewArms, markOf, unmarked, arity, countOf, wordsOf, grownOf, joinedOf, builtOf, Roomy};
+ghost use Rattle.arities.specs.Marks.{unmarked};
+ghost use Rattle.reading.specs.Steps.{aWord, small, termStep, termsStep, armsStep, FewArms, wordsOf, grownOf, joinedOf, builtOf, Roomy};
 ghost use Rattle.reading.specs.Answers.{checkedReply};
 
 // The words of a variable's passing form, and those that each other form has besides its parts' passing forms and chains.
@@ -37,20 +39,11 @@ const CHAINED_WORDS: usize = 3;
 // What each argument of a constructor of atoms saves: its words in a chain, and what its passing form has besides its carried form.
 const SAVED_WORDS: usize = 6;
 
-// A head's number is its low byte, the remainder by this.
-const LOW_BYTE: u16 = 256;
-
 // What reading a thing gives: the place after it, whether it is all atoms, and its words in an image (of a term the passing
 // form's, of a list the chain's); or a refusal's number and its place.
 enum Step {
     Next(usize, bool, usize),
     No(u8, usize),
-}
-
-// What reading a second word gives: a count and the place after it; or a refusal's number and its place.
-enum Count {
-    Is(u16, usize),
-    Not(u8, usize),
 }
 
 // The checking call's reply: success; or a refusal's number and its place.
@@ -104,71 +97,6 @@ fn built(r: Step, m: usize) -> Step
     }
 }
 
-// A second word: how many arguments.
-fn second_at(s: &[u16], at: usize) -> Count
-    ensures { λ r. ⌜ r ≡ countOf (second (now (s .entry)) at) ⌝ }
-{
-    if s.len() <= at {
-        return Count::Not(language::NONE_LEFT, s.len());
-    }
-    let m = s[at];
-    if (language::MOST_ARGUMENTS as u16) < m {
-        return Count::Not(language::OUT_OF_RANGE, at);
-    }
-    Count::Is(m, at + 1)
-}
-
-// An arm's mark: the low bytes of its two words, its tag and its arity, in one word.
-fn mark(w: u16, m: u16) -> u16
-    ensures { λ r. ⌜ r ≡ markOf w m ⌝ }
-{
-    w % LOW_BYTE * LOW_BYTE + m % LOW_BYTE
-}
-
-// Whether one of the marks is this one.
-fn is_among(x: u16, marks: &[u16]) -> bool
-    ensures { λ r. ⌜ r ≡ dead (x / 256) (x % 256) (unmarked (now (marks .entry))) ⌝ }
-{
-    let mut i = 0;
-    while i < marks.len() {
-        if marks[i] == x {
-            return true;
-        }
-        i += 1;
-    }
-    false
-}
-
-// The second word of an arm with the head w, its arity; the arms before it in its match have these marks.
-fn unlike_at(s: &[u16], at: usize, w: u16, marks: &[u16]) -> Count
-    ensures { λ r. ⌜ r ≡ countOf (unlike (now (s .entry)) (unmarked (now (marks .entry))) (w % 256) at) ⌝ }
-{
-    match second_at(s, at) {
-        Count::Not(e, p) => Count::Not(e, p),
-        Count::Is(m, to) => {
-            if is_among(mark(w, m), marks) {
-                Count::Not(language::DEAD_ARM, at)
-            } else {
-                Count::Is(m, to)
-            }
-        }
-    }
-}
-
-// An arm's two words: its arity.
-fn arity_at(s: &[u16], at: usize, marks: &[u16]) -> Count
-    ensures { λ r. ⌜ r ≡ countOf (arity (now (s .entry)) (unmarked (now (marks .entry))) at) ⌝ }
-{
-    if s.len() <= at {
-        return Count::Not(language::NONE_LEFT, s.len());
-    }
-    let w = s[at];
-    match language::look(language::AT_ARM, w) {
-        Head::Refused(e) => Count::Not(e, at),
-        Head::Opens(_) => unlike_at(s, at + 1, w, marks),
-    }
-}
-
 // A term, with so many levels of depth left, under so many source variables.
 fn term_at(s: &[u16], at: usize, left: usize, bound: usize) -> Step
     requires { ⌜ (length (now s) ≤ aWord) × (bound + aWord * left ≤ small) ⌝ }
@@ -216,7 +144,7 @@ fn opened_at(s: &[u16], at: usize, left: usize, bound: usize, low: usize, row: R
             Step::No(e, p) => Step::No(e, p),
             Step::Next(to, _, z) => grown(term_at(s, to, left, bound + binds), false, z, LET_WORDS),
         },
-        Parts::CountAndArguments => match second_at(s, next) {
+        Parts::CountAndArguments => match arities::second_at(s, next) {
             Count::Not(e, second) => Step::No(e, second),
             Count::Is(m, to) => built(terms_at(s, to, left, bound, m as usize), m as usize),
         },
@@ -273,10 +201,10 @@ fn arms_at(
     if count == 0 {
         return Step::Next(at, false, 0);
     }
-    match arity_at(s, at, &marks[..before]) {
+    match arities::arity_at(s, at, &marks[..before]) {
         Count::Not(e, p) => Step::No(e, p),
         Count::Is(m, body) => {
-            marks[before] = mark(s[at], m);
+            marks[before] = arities::mark(s[at], m);
             match term_at(s, body, left, bound + m as usize) {
                 Step::No(e, p) => Step::No(e, p),
                 Step::Next(to, _, z) => grown(

@@ -1,6 +1,6 @@
 // Writes the image of a rule that was checked: one forward pass over the rule's words and over the output.
 use atoms::HEAD_AND_COUNT;
-use atoms::LOW_BYTE;
+use language::LOW_BYTE;
 use language::Parts;
 use runs::Continuation;
 use runs::Source;

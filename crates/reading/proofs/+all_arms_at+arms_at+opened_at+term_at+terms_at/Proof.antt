@@ -21,12 +21,12 @@ use Rattle.reading.proofs.terms_at.Reads as terms-at
 use Rattle.reading.proofs.terms_at.Kinds as terms-at-kinds
 use Rattle.reading.proofs.+all_arms_at+arms_at+opened_at+term_at+terms_at.Lts-terms_at as terms-at-lts
 use Rattle.language.proofs.look.Reads as look-reads
-use Rattle.reading.proofs.arity_at.Reads as arity-at-reads
+use Rattle.arities.proofs.arity_at.Reads as arity-at-reads
 use Rattle.reading.proofs.built.Reads as built-reads
 use Rattle.reading.proofs.grown.Reads as grown-reads
 use Rattle.reading.proofs.joined.Reads as joined-reads
-use Rattle.reading.proofs.mark.Reads as mark-reads
-use Rattle.reading.proofs.second_at.Reads as second-at-reads
+use Rattle.arities.proofs.mark.Reads as mark-reads
+use Rattle.arities.proofs.second_at.Reads as second-at-reads
 use Rattle.reading.proofs.+all_arms_at+arms_at+opened_at+term_at+terms_at.{statement}
 use Rattle.reading.proofs.+all_arms_at+arms_at+opened_at+term_at+terms_at.Tie.{close}
 use native.Mathlib.Omega.{arith}
@@ -34,7 +34,7 @@ use lib.ListN.{length-set}
 use Rattle.language.specs.Kinds.{mostByte}
 use Rattle.reading.specs.Steps.{aWord}
 use Rattle.reading.proofs.Sums.{sums}
-use Rattle.reading.proofs.Marks.{l-front}
+use Rattle.arities.proofs.Marks.{l-front}
 use Rattle.reading.proofs.Ways.{ways}
 
 abbrev level : ℕ

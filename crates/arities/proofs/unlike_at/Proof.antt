@@ -1,8 +1,8 @@
--- `reading::unlike_at` meets its contract: each way out is a law of `Ways`.
+-- `arities::unlike_at` meets its contract: each way out is a law of `Ways`.
 -- Assumes nothing.
-use Rattle.reading.proofs.Ways.{ways}
-use Rattle.reading.proofs.unlike_at.Statement.{statement}
-use Rattle.reading.proofs.unlike_at.Tie as tie
+use Rattle.arities.proofs.Ways.{ways}
+use Rattle.arities.proofs.unlike_at.Statement.{statement}
+use Rattle.arities.proofs.unlike_at.Tie as tie
 
 second-at-requires : tie.Need-second-at-requires
 second-at-requires c κs = search ways

@@ -15,7 +15,7 @@ use borrow.Author.Tests.{eq-eqb, eqb-true}
 use Rattle.language.specs.Run.{both}
 use Rattle.language.specs.Dead.{dead}
 use Rattle.language.proofs.Clash.{never}
-use Rattle.reading.specs.Steps.{markOf, unmarked}
+use Rattle.arities.specs.Marks.{markOf, unmarked}
 
 -- whether one of the marks ms is x
 abbrev pub among : ℕ → List ℕ → Bool
@@ -53,14 +53,21 @@ module _ (x i : ℕ) (ms : List ℕ) (rest : among x (drop i ms) ≡ among x ms)
     k-next n = simp add-one (sym (first ∙ simp (other-mark x (getD ms i 0) n)) ∙ rest)
 
 -- one mark more
+unmark : ℕ → ℕ × ℕ
+unmark x = (x / 256, x % 256)
+
+unmark-mark : (w m : ℕ) → m < 256 → unmark (markOf w m) ≡ (w % 256, m)
+unfolding unmark
+unmark-mark w m l =
+    let t : markOf w m / 256 ≡ w % 256 = omega arith in
+    let n : markOf w m % 256 ≡ m = omega arith in
+    rw (t, n)
+
 pub marked-more : (ms : List ℕ) (k w m : ℕ) → k < length ms → m < 256
     → unmarked (take (k + 1) (set ms k (markOf w m))) ≡ unmarked (take k ms) ++ ((w % 256, m) ∷ [])
-unfolding unmarked
-marked-more ms k w m h l =
-    let d : markOf w m / 256 ≡ w % 256 = omega arith in
-    let r : markOf w m % 256 ≡ m = omega arith in
-    simp add-one (ap unmarked (take-suc-set ms k (markOf w m) h)
-    ∙ map-append (λ x. (x / 256, x % 256)) (take k ms) (markOf w m ∷ []) ∙ rw (d, r))
+unfolding unmarked unmark
+marked-more ms k w m h l = simp add-one (ap unmarked (take-suc-set ms k (markOf w m) h)
+    ∙ map-append unmark (take k ms) (markOf w m ∷ []) ∙ ap (λ x. unmarked (take k ms) ++ (x ∷ [])) (unmark-mark w m l))
 
 -- the table of marks stays as long as it was
 pub l-front : (ms : List ℕ) (k : ℕ) → k ≤ length ms → k ≡ length (take k ms)

@@ -1,11 +1,11 @@
--- `reading::is_among` meets its contract. The loop keeps: the marks still to be looked at decide.
+-- `arities::is_among` meets its contract. The loop keeps: the marks still to be looked at decide.
 -- Assumes nothing.
 use Prim.Native.Nat.{_-_}
 use mathlib.Core.Path.{_≡_, refl}
 use lib.ListN.{length, drop}
-use Rattle.reading.proofs.Marks.{among, looking}
-use Rattle.reading.proofs.is_among.Statement.{statement}
-use Rattle.reading.proofs.is_among.Tie as tie
+use Rattle.arities.proofs.Marks.{among, looking}
+use Rattle.arities.proofs.is_among.Statement.{statement}
+use Rattle.arities.proofs.is_among.Tie as tie
 
 abbrev Inv-loop : tie.InvT-loop
 Inv-loop x marks i₀ i = among x (drop i marks) ≡ among x marks
