@@ -8,7 +8,7 @@ use mathlib.Core.List.{List, [], _∷_, _++_, map-append}
 use native.Mathlib.Omega.{arith}
 use native.Mathlib.Numerals.{add-one}
 use lib.Dec.{eqb}
-use lib.ListN.{length, getD, take, drop, set, length-set, drop-of-length-le}
+use lib.ListN.{length, getD, take, drop, set, drop-of-length-le}
 use lib.Seq.{drop-cons, take-suc-set, length-take-le}
 use borrow.Author.Needs.{needs}
 use borrow.Author.Tests.{eq-eqb, eqb-true}
@@ -69,14 +69,8 @@ unfolding unmarked unmark
 marked-more ms k w m h l = simp add-one (ap unmarked (take-suc-set ms k (markOf w m) h)
     ∙ map-append unmark (take k ms) (markOf w m ∷ []) ∙ ap (λ x. unmarked (take k ms) ++ (x ∷ [])) (unmark-mark w m l))
 
--- the table of marks stays as long as it was
-pub l-front : (ms : List ℕ) (k : ℕ) → k ≤ length ms → k ≡ length (take k ms)
-l-front ms k h = sym (length-take-le k ms h)
-
-pub l-stored : (ms : List ℕ) (k d : ℕ) → length (set ms k d) ≡ length ms
-l-stored ms k d = simp length-set
-
-pub l-kept : (ms : List ℕ) (k d : ℕ) (o : List ℕ) → length o ≡ length (set ms k d) → length o ≡ length ms
-l-kept ms k d o e = e ∙ l-stored ms k d
+-- the front of a table of marks is as long as it says
+pub front-counts : (ms : List ℕ) (k : ℕ) → k ≤ length ms → k ≡ length (take k ms)
+front-counts ms k h = sym (length-take-le k ms h)
 
 pub ruleset looking = (k-end, k-here, k-next, needs)

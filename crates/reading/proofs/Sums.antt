@@ -1,12 +1,14 @@
 -- What the code counts is small, so that its sums do not wrap: a row's body has one source variable at most besides its arguments, a match has few
 -- arms, and the words of what was read are at most seven times the words that it stands in.
 -- Assumes nothing.
-use Prim.Native.Nat.{ℕ, _*_, _%_, _≤_}
+use Prim.Native.Nat.{ℕ, _+_, _*_, _%_, _<_, _≤_}
 use mathlib.Core.Path.{_≡_, sym, ap, _∙_}
 use mathlib.Core.Bool.{Bool}
 use mathlib.Core.List.{List}
 use native.Mathlib.Omega.{arith}
 use lib.ListN.{length, drop, length-append, length-drop}
+use mir.Syntax.{w64}
+use mir.Val.{Fits}
 use Rattle.language.specs.Term.{Terms}
 use Rattle.language.specs.Kinds.{mostArms, atTerm, headOf}
 use Rattle.language.specs.Places.{Held}
@@ -19,7 +21,7 @@ use Rattle.language.proofs.Clash.{never}
 use Rattle.sizes.proofs.Promises.{bound, bounds, boundᵃ, leasts}
 use Rattle.trust.proofs.Rows.{Opened, o-var, o-fun, o-rec, o-call, o-let, o-con, o-match, o-arm, passed}
 use Rattle.trust.proofs.Accepted.{Holds, held, left, Goodᵗ, term-good, many-good, arms-good}
-use Rattle.reading.specs.Steps.{aWord, small, chainLength, stepOf, termStep, termsStep, armsStep, FewArms, wordsOf, Roomy}
+use Rattle.reading.specs.Steps.{aWord, small, armWords, chainLength, stepOf, termStep, termsStep, armsStep, FewArms, wordsOf, Roomy}
 use Rattle.reading.specs.declared.Step.{Step}
 use Rattle.reading.specs.declared.Step.the-variants.{Next}
 
@@ -98,5 +100,16 @@ module _ (s : List ℕ) (d n at : ℕ) {r : Step} (few : length s ≤ aWord) whe
 pub s-part : {r : Step} {to c : ℕ} {b : Bool} → r ≡ Next to b c → wordsOf r ≤ small → c ≤ small
 unfolding wordsOf
 s-part e h = omega (arith, ap wordsOf e)
+
+-- a match's arms so far, and one more
+module _ {r : Step} {to c : ℕ} {b : Bool} (e : r ≡ Next to b c) (h : wordsOf r ≤ small) (i k z : ℕ) (so-far : z ≤ 2 * small * i) where
+  pub s-sum-kept : z + c + armWords ≤ 2 * small * (i + 1)
+  s-sum-kept = omega (arith, s-part e h)
+
+  pub s-sum : i < k → k ≤ mostArms → Fits w64 (z + c)
+  s-sum l m = record { fits = omega (arith, s-part e h) }
+
+  pub s-sum-more : i < k → k ≤ mostArms → Fits w64 (z + c + armWords)
+  s-sum-more l m = record { fits = omega (arith, s-part e h) }
 
 pub ruleset sums = (row-binds, row-arms, terms-roomy, s-term, s-terms, s-arms, s-part)

@@ -3,7 +3,7 @@
 -- b built, t term_at, p opened_at, l terms_at, a arms_at.
 -- Assumes nothing.
 use Prim.Native.Nat.{ℕ, zero, suc, _+_, _-_, _*_, _/_, _%_, _<_, _≤_}
-use mathlib.Core.Path.{_≡_, refl, _∙_}
+use mathlib.Core.Path.{_≡_, refl, ap, _∙_}
 use mathlib.Core.Bool.{Bool, true, false, cond}
 use mathlib.Core.List.{List, [], _∷_, _++_}
 use mathlib.Core.Logic.{_⊎_, inl, inr, ⊎-elim}
@@ -32,9 +32,9 @@ use Rattle.reading.specs.declared.Step.the-variants.{Next, No}
 use Rattle.arities.specs.declared.Count.{Count}
 use Rattle.arities.specs.declared.Count.the-variants.{Is, Not}
 use Rattle.arities.specs.Marks.{markOf, unmarked, arity, countOf}
-use Rattle.arities.proofs.Marks.{marked-more, l-front, l-stored, l-kept}
+use Rattle.arities.proofs.Marks.{marked-more}
 use Rattle.arities.proofs.Ways.{is-found, is-fault, arity-known, a-there, arity-then}
-use Rattle.reading.proofs.Sums.{sums}
+use Rattle.reading.proofs.Sums.{s-sum, s-sum-more, s-sum-kept, sums}
 use Rattle.language.proofs.Clash.{never}
 use Rattle.reading.proofs.Steps.{came, stops, goes, grows, of-cons, of-construct}
 
@@ -178,39 +178,58 @@ unfolding armsOf
 armed s p before n zero at z = absurd (z refl)
 armed s p before n (suc k) at z = simp sub-one (arity-then s before at _)
 
-module _ (s : List ℕ) (p : ℕ → ℕ → Got Term) (ms : List ℕ) (j n k at : ℕ) where
-  pub a-end : k ≡ 0 → Next at false 0 ≡ armsStep (armsOf s p (unmarked (take j ms)) n k at)
-  unfolding armsOf stepOf
-  a-end z = simp (z, of-none)
+-- in a loop: the arms from `at` on, behind the first i of k, whose marks stand at the front of ms, are z words short of the whole
+grown-none : (g : Got Arms) → grownOf false 0 0 (armsStep g) ≡ armsStep g
+unfolding grownOf stepOf
+grown-none (found ps to) = ap (Next to false) (omega arith)
+grown-none (fault e p) = refl
 
-  module _ (z : k ≡ 0 → ⊥) {y : Count} (c : y ≡ countOf (arity s (unmarked (take j ms)) at)) where
-    pub a-refused : {b i : ℕ} → y ≡ Not b i → No b i ≡ armsStep (armsOf s p (unmarked (take j ms)) n k at)
-    unfolding stepOf then
-    a-refused l = came _ _ (armed s p (unmarked (take j ms)) n k at z) (rw (is-fault _ c l))
+grown-twice : (z c k : ℕ) (r : Step) → grownOf false z 0 (grownOf false c k r) ≡ grownOf false (z + c + k) 0 r
+unfolding grownOf
+grown-twice z c k (Next to b y) = ap (Next to false) (omega arith)
+grown-twice z c k (No e p) = refl
 
-    module _ {m i : ℕ} (l : y ≡ Is m i) {v : Step} (q : v ≡ termStep (p (n + m) i)) where
-      pub a-stop : {b i : ℕ} → v ≡ No b i → No b i ≡ armsStep (armsOf s p (unmarked (take j ms)) n k at)
+pub a-start : (s : List ℕ) (p : ℕ → ℕ → Got Term) (ms : List ℕ) (n k at : ℕ)
+    → grownOf false 0 0 (armsStep (armsOf s p (unmarked (take 0 ms)) n (k - 0) at)) ≡ armsStep (armsOf s p [] n k at)
+unfolding unmarked
+a-start s p ms n k at = let e : k - 0 ≡ k = omega arith in rw e (grown-none (armsOf s p [] n k at))
+
+module _ (s : List ℕ) (p : ℕ → ℕ → Got Term) (ms : List ℕ) (i n k at z : ℕ) {whole : Step}
+    (rest : grownOf false z 0 (armsStep (armsOf s p (unmarked (take i ms)) n (k - i) at)) ≡ whole) where
+  pub a-end : k ≤ i → Next at false z ≡ whole
+  unfolding armsOf stepOf grownOf
+  a-end h = let e : k - i ≡ 0 = omega arith in ap (Next at false) (omega (arith, of-none)) ∙ (rw e at rest)
+
+  module _ (h : i < k) {y : Count} (c : y ≡ countOf (arity s (unmarked (take i ms)) at)) where
+    left : k - i ≡ 0 → ⊥
+    left e = omega arith
+
+    -- where the next arm comes to a step, so does the whole
+    on : {x : Step} → x ≡ armsStep (then (arity s (unmarked (take i ms)) at) (λ m to. then (p (n + m) to) (λ b past. made (arm (getD s at 0 % 256) m b)
+        (armsOf s p (unmarked (take i ms) ++ ((getD s at 0 % 256, m) ∷ [])) n (k - i - 1) past)))) → grownOf false z 0 x ≡ whole
+    on e = ap (grownOf false z 0) (came _ _ (armed s p (unmarked (take i ms)) n (k - i) at left) e) ∙ rest
+
+    pub a-refused : {b q : ℕ} → y ≡ Not b q → No b q ≡ whole
+    unfolding stepOf then grownOf
+    a-refused {b} {q} l = on {x = No b q} (rw (is-fault (arity s (unmarked (take i ms)) at) c l))
+
+    module _ {m j : ℕ} (l : y ≡ Is m j) {v : Step} (q : v ≡ termStep (p (n + m) j)) where
+      pub a-stop : {b r : ℕ} → v ≡ No b r → No b r ≡ whole
+      unfolding then grownOf
+      a-stop {b} {r} o = on {x = No b r} (rw (is-found (arity s (unmarked (take i ms)) at) c l) (stops _ _ _ _ _ _ q o))
+
+      pub a-more : {d : ℕ} → d ≡ markOf (getD s at 0) m → k ≤ mostArms → length ms ≡ mostArms → {to x : ℕ} {b : Bool} → v ≡ Next to b x
+          → grownOf false (z + x + armWords) 0 (armsStep (armsOf s p (unmarked (take (i + 1) (set ms i d))) n (k - (i + 1)) to)) ≡ whole
       unfolding then
-      a-stop o = came _ _ (armed s p (unmarked (take j ms)) n k at z) (rw (is-found _ c l) (stops _ _ _ _ _ _ q o))
+      a-more {d} e few long {to} {x} o =
+          let most = arity-known s (unmarked (take i ms)) at (is-found _ c l) .1 in
+          let f : k - i - 1 ≡ k - (i + 1) = omega arith in
+          rw (e, marked-more ms i (getD s at 0) m (omega arith) (omega arith), ← f, ← grown-twice z x armWords (armsStep (armsOf s p (unmarked (take i ms) ++ ((getD s at 0 % 256, m) ∷ [])) n (k - i - 1) to)))
+          (on (rw (is-found (arity s (unmarked (take i ms)) at) c l) (goes _ _ _ _ _ _ q o
+          (λ t o w. grows _ _ _ _ (arm (getD s at 0 % 256) m t) _ _ _ _ refl (λ ps. refl) (λ ps. omega (arith, of-arm (getD s at 0 % 256) m t ps)) refl))))
 
-      pub a-more : {d : ℕ} → d ≡ markOf (getD s at 0) m → j + k ≤ length ms → {x g : Step} {to c : ℕ} {b : Bool} → v ≡ Next to b c
-          → g ≡ armsStep (armsOf s p (unmarked (take (j + 1) (set ms j d))) n (k - 1) to) → x ≡ grownOf false c armWords g
-          → x ≡ armsStep (armsOf s p (unmarked (take j ms)) n k at)
-      unfolding then
-      a-more d room o g u =
-          let most = arity-known s (unmarked (take j ms)) at (is-found _ c l) .1 in
-          let g' = rw (d, marked-more ms j (getD s at 0) m (omega arith) (omega arith)) at g in
-          came _ _ (armed s p (unmarked (take j ms)) n k at z) (rw (is-found _ c l) (goes _ _ _ _ _ _ q o
-          (λ t o w. grows _ _ _ _ (arm (getD s at 0 % 256) m t) _ _ _ _ g' (λ ps. refl) (λ ps. omega (arith, of-arm (getD s at 0 % 256) m t ps)) u)))
-
--- all the arms of a match
 pub p-few : {f : Parts} {a : ℕ} → FewArms f a → f ≡ SubjectAndArms → a ≤ mostArms
 p-few h e = h .few e
-
-pub a-all : (s : List ℕ) (p : ℕ → ℕ → Got Term) (ms : List ℕ) (n k at : ℕ) {x : Step} → x ≡ armsStep (armsOf s p (unmarked (take 0 ms)) n k at)
-    → x ≡ armsStep (armsOf s p [] n k at)
-unfolding unmarked
-a-all s p ms n k at e = e
 
 pub ruleset ways = (
   g-no,
@@ -239,18 +258,11 @@ pub ruleset ways = (
   l-end,
   l-stop,
   l-more,
-  a-end,
-  a-refused,
-  a-stop,
-  a-more,
-  a-there,
-  a-all,
-  l-front,
-  l-stored,
-  l-kept,
-  refl,
   inl,
   inr,
   sums,
   needs,
 )
+
+-- in the loop over arms, whose laws conclude of any step
+pub ruleset arms-ways = (a-start, a-end, a-refused, a-stop, a-more, a-there, s-sum, s-sum-more, s-sum-kept, sums, needs)

@@ -150,12 +150,7 @@ fn opened_at(s: &[u16], at: usize, left: usize, bound: usize, low: usize, row: R
         },
         Parts::SubjectAndArms => match term_at(s, next, left, bound) {
             Step::No(e, p) => Step::No(e, p),
-            Step::Next(to, _, z) => grown(
-                all_arms_at(s, to, left, bound, low),
-                false,
-                z,
-                MATCH_WORDS,
-            ),
+            Step::Next(to, _, z) => grown(arms_at(s, to, left, bound, low), false, z, MATCH_WORDS),
         },
         Parts::ArityAndBody => Step::No(language::WRONG_KIND, at),
     }
@@ -175,47 +170,32 @@ fn terms_at(s: &[u16], at: usize, left: usize, bound: usize, count: usize) -> St
     }
 }
 
-// The arms of a match, so many.
-fn all_arms_at(s: &[u16], at: usize, left: usize, bound: usize, count: usize) -> Step
+// The arms of a match, so many. Each arm's mark is kept for those behind it.
+fn arms_at(s: &[u16], at: usize, left: usize, bound: usize, count: usize) -> Step
     requires { ⌜ (length (now s) ≤ aWord) × (bound + aWord * (left + 1) ≤ small) × (count ≤ mostArms) ⌝ }
     ensures { λ r. ⌜ r ≡ armsStep (armsOf (now (s .entry)) (term (now (s .entry)) left) [] bound count at) ⌝ }
 {
     let mut marks = [0u16; language::MOST_ARMS as usize];
-    arms_at(&mut marks, 0, s, at, left, bound, count)
-}
-
-// So many arms, one after the other, behind so many of their match, whose marks stand at the front.
-fn arms_at(
-    marks: &mut [u16],
-    before: usize,
-    s: &[u16],
-    at: usize,
-    left: usize,
-    bound: usize,
-    count: usize,
-) -> Step
-    requires { ⌜ (before + count ≤ length (now marks)) × (length (now s) ≤ aWord) × (bound + aWord * (left + 1) ≤ small) ⌝ }
-    ensures { λ r. ⌜ (r ≡ armsStep (armsOf (now (s .entry)) (term (now (s .entry)) left) (unmarked (take before (now (marks .entry)))) bound count at))
-        × (length (now (marks .exit)) ≡ length (now (marks .entry))) ⌝ }
-{
-    if count == 0 {
-        return Step::Next(at, false, 0);
-    }
-    match arities::arity_at(s, at, &marks[..before]) {
-        Count::Not(e, p) => Step::No(e, p),
-        Count::Is(m, body) => {
-            marks[before] = arities::mark(s[at], m);
-            match term_at(s, body, left, bound + m as usize) {
-                Step::No(e, p) => Step::No(e, p),
-                Step::Next(to, _, z) => grown(
-                    arms_at(marks, before + 1, s, to, left, bound, count - 1),
-                    false,
-                    z,
-                    ARM_WORDS,
-                ),
+    let mut next = at;
+    let mut words = 0;
+    let mut i = 0;
+    while i < count {
+        match arities::arity_at(s, next, &marks[..i]) {
+            Count::Not(e, p) => return Step::No(e, p),
+            Count::Is(m, body) => {
+                marks[i] = arities::mark(s[next], m);
+                match term_at(s, body, left, bound + m as usize) {
+                    Step::No(e, p) => return Step::No(e, p),
+                    Step::Next(to, _, z) => {
+                        next = to;
+                        words = words + z + ARM_WORDS;
+                    }
+                }
             }
         }
+        i += 1;
     }
+    Step::Next(next, false, words)
 }
 
 // The closed term that stands at a place of a table, after the tests of the table's length.
