@@ -38,26 +38,42 @@ static void put_lets(struct word_sink *sink, size_t words)
     put_even(sink, put_lets, words - 1, 2);
 }
 
-/* A match of seven arms, whose two words are its own. */
-static void put_matches(struct word_sink *sink, size_t words)
+/* A match of so many arms, whose two words are its own, the other words shared by its subject and their bodies. */
+static void put_match(struct word_sink *sink, void (*put)(struct word_sink *, size_t), size_t words, size_t arms)
 {
-    const size_t own = 1 + 2 * (EIGHT - 1);
-    size_t share = words / EIGHT;
+    size_t share;
 
-    if (words < own + EIGHT * LEAF) {
-        put_filler(sink, words);
-        return;
-    }
-    words -= own;
-    share = words / EIGHT;
-    put_kind(sink, KIND_MATCH, EIGHT - 1);
-    put_matches(sink, share);
-    for (size_t arms = EIGHT - 1; arms > 0; arms--) {
+    words -= 1 + 2 * arms;
+    share = words / (arms + 1);
+    put_kind(sink, KIND_MATCH, arms);
+    put(sink, share);
+    for (; arms > 0; arms--) {
         words -= share;
         share = words / arms;
         put_two(sink, KIND_ARM, arms, 0);
-        put_matches(sink, share);
+        put(sink, share);
     }
+}
+
+/* Matches of seven arms. */
+static void put_matches(struct word_sink *sink, size_t words)
+{
+    if (words < 1 + 2 * (EIGHT - 1) + EIGHT * LEAF) {
+        put_filler(sink, words);
+        return;
+    }
+    put_match(sink, put_matches, words, EIGHT - 1);
+}
+
+/* Matches of as many arms as there are words for, some 31, side by side in lets. */
+static void put_wide_matches(struct word_sink *sink, size_t words)
+{
+    if (words > 1 + LEAF + ARMS_MOST * (2 + LEAF)) {
+        put_kind(sink, KIND_LET, 0);
+        put_even(sink, put_wide_matches, words - 1, 2);
+        return;
+    }
+    put_match(sink, put_filler, words, (words - 1 - LEAF) / (2 + LEAF));
 }
 
 /* Functions within functions, at most 32 words high, side by side in lets. */
@@ -96,8 +112,8 @@ static void put_constructors(struct word_sink *sink, size_t words)
 
 const struct shape grown_shapes[GROWN_SHAPES] = {
     { "calls", put_calls },         { "lets", put_lets },
-    { "matches", put_matches },     { "functions", put_functions },
-    { "nested constructors", put_constructors },
+    { "matches", put_matches },     { "wide matches", put_wide_matches },
+    { "functions", put_functions }, { "nested constructors", put_constructors },
 };
 
 /* One argument of the outermost function, for leaves of one word. */

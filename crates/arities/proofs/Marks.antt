@@ -14,7 +14,6 @@ use borrow.Author.Needs.{needs}
 use borrow.Author.Tests.{eq-eqb, eqb-true}
 use Rattle.language.specs.Run.{both}
 use Rattle.language.specs.Dead.{dead}
-use Rattle.language.proofs.Clash.{never}
 use Rattle.arities.specs.Marks.{markOf, unmarked}
 
 -- whether one of the marks ms is x

@@ -123,8 +123,7 @@ abbrev pub nested : Example
 nested =
     example (asks (asks short (0x0805 ∷ 0x0000 ∷ short) longArm) (0x0805 ∷ 0x0000 ∷ asks short longArm shortArm) longArm) 74 (0x0601 ∷ 0x0000 ∷ []) 11
 
--- and a match of the short request whose last arm is of the short form again, behind the arms a: the arm's second word and body are w. It is refused at
--- that word
+-- and a match of the short request with an arm of the short form, the arm a, and an arm with the tag of both, whose second word and body are w
 abbrev again : List ℕ → List ℕ → List ℕ
 again a w = 0x0703 ∷ short ++ shortArm ++ a ++ (0x0805 ∷ w)
 
@@ -136,8 +135,8 @@ imageB =
     ∷ 0x0900 ∷ 0x0201 ∷ 0x0900 ∷ []
 
 -- A to G, B's image, H to M, and N at 7 and at 8 words; then faults in the midst of a rule: a constructor's second word and one that is missing, a
--- later argument, an arm's head and its second word; then dead arms, behind its like and with an arm between them, and what is tested before 18 and
--- after it; then the requests and the nested matches
+-- later argument, an arm's head and its second word; then dead arms, right behind their like and with an arm between them, what is tested before 18
+-- and what after it; then the nested matches and the requests
 abbrev pub worked : List Case
 worked =
     runs caseA

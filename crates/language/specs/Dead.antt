@@ -3,12 +3,13 @@
 use Prim.Native.Nat.{ℕ}
 use mathlib.Core.Bool.{Bool, false, _||_}
 use mathlib.Core.List.{List, [], _∷_}
-use mathlib.Core.Option.{Option, some, none as nothing}
+use mathlib.Core.Option.{some, none as nothing}
 use mathlib.Core.Path.{_≡_}
 use Rattle.language.specs.Term.{Term, Terms, Arms, var, kvar, fun, call, bind, con, cases, nil, cons, none, arm, size}
 use Rattle.language.specs.Run.{Value, both, took}
 
--- an arm with the tag t and the arity n is dead: "the same tag and arity" has one of the arms before it in its match, whose tags and arities are `before`
+-- whether an arm with the tag t and the arity n is dead: one of the arms before it in its match, whose tags and arities are `before`, has "the same tag
+-- and arity"
 unfoldable pub dead : ℕ → ℕ → List (ℕ × ℕ) → Bool
 dead t n [] = false
 dead t n (a ∷ before) = both t n (a .0) (a .1) || dead t n before

@@ -49,7 +49,8 @@ unfoldable pub itself : ℕ → Term → Terms
 itself zero f = nil
 itself (suc o) f = cons f (itself o f)
 
--- of the tag t and n arguments, and an arm's tag and arity: Document 02, Wish 3: "both the tag and the arity"
+-- whether an arm with the tag t' and the arity n' has "both the tag and the arity" of a constructor value with the tag t and n arguments: document 02,
+-- Wish 3
 abbrev pub both : ℕ → ℕ → ℕ → ℕ → Bool
 both t n t' n' = eqb t t' && eqb n n'
 

@@ -2,22 +2,20 @@
 -- right. `search ways` finds a law's premises in what is known where the code returns. A law's first letter says of which function: g grown, j joined,
 -- b built, t term_at, p opened_at, l terms_at, a arms_at.
 -- Assumes nothing.
-use Prim.Native.Nat.{ℕ, zero, suc, _+_, _-_, _*_, _/_, _%_, _<_, _≤_}
+use Prim.Native.Nat.{ℕ, zero, suc, _+_, _-_, _*_, _%_, _<_, _≤_}
 use mathlib.Core.Path.{_≡_, refl, ap, _∙_}
-use mathlib.Core.Bool.{Bool, true, false, cond}
+use mathlib.Core.Bool.{Bool, true, false}
 use mathlib.Core.List.{List, [], _∷_, _++_}
 use mathlib.Core.Logic.{_⊎_, inl, inr, ⊎-elim}
 use native.Mathlib.Omega.{arith}
 use native.Mathlib.Numerals.{sub-one}
-use lib.Dec.{ltb}
 use lib.ListN.{length, getD, take, set}
 use borrow.Author.Needs.{needs}
-use borrow.Author.Tests.{lt-ltb, le-ltb, lt-leb, le-leb, ltb-true}
+use borrow.Author.Tests.{lt-ltb, le-ltb}
 use Rattle.language.specs.Term.{Term, Arms, fun, call, bind, cases, cons, arm, size}
 use Rattle.language.specs.Run.{atom}
-use Rattle.language.specs.Kinds.{mostArguments, mostArms, atTerm, atArm, headOf}
-use Rattle.language.specs.Dead.{dead}
-use Rattle.language.specs.Read.{Got, found, fault, then, made, word, headed, second, many, unlike, armsOf, opened, term}
+use Rattle.language.specs.Kinds.{mostArms, atTerm, headOf}
+use Rattle.language.specs.Read.{Got, found, fault, then, made, headed, second, many, armsOf, opened, term}
 use Rattle.language.specs.declared.Parts.{Parts}
 use Rattle.language.specs.declared.Parts.the-variants.{Nothing, Body, FunctionAndArguments, BoundAndBody, CountAndArguments, SubjectAndArms, ArityAndBody}
 use Rattle.language.specs.declared.Row.{Row}
@@ -35,7 +33,6 @@ use Rattle.arities.specs.Marks.{markOf, unmarked, arity, countOf}
 use Rattle.arities.proofs.Marks.{marked-more}
 use Rattle.arities.proofs.Ways.{is-found, is-fault, arity-known, a-there, arity-then}
 use Rattle.reading.proofs.Sums.{s-sum, s-sum-more, s-sum-kept, sums}
-use Rattle.language.proofs.Clash.{never}
 use Rattle.reading.proofs.Steps.{came, stops, goes, grows, of-cons, of-construct}
 
 -- what is put together of steps
@@ -151,6 +148,9 @@ module _ (s : List ℕ) (d n at a o : ℕ) {f : Parts} where
   unfolding opened then
   p-con q k l m u = rw (q, is-found _ k l) (of-construct _ _ _ _ _ _ m u)
 
+pub p-few : {f : Parts} {a : ℕ} → FewArms f a → f ≡ SubjectAndArms → a ≤ mostArms
+p-few h e = h .few e
+
 -- a list of terms
 many-more : (p : ℕ → Got Term) (k at : ℕ) → (k ≡ 0 → ⊥) → many p k at ≡ then (p at) (λ t to. made (cons t) (many p (k - 1) to))
 unfolding many
@@ -178,7 +178,7 @@ unfolding armsOf
 armed s p before n zero at z = absurd (z refl)
 armed s p before n (suc k) at z = simp sub-one (arity-then s before at _)
 
--- in a loop: the arms from `at` on, behind the first i of k, whose marks stand at the front of ms, are z words short of the whole
+-- a step that grows by nothing, and one that grows twice
 grown-none : (g : Got Arms) → grownOf false 0 0 (armsStep g) ≡ armsStep g
 unfolding grownOf stepOf
 grown-none (found ps to) = ap (Next to false) (omega arith)
@@ -189,6 +189,7 @@ unfolding grownOf
 grown-twice z c k (Next to b y) = ap (Next to false) (omega arith)
 grown-twice z c k (No e p) = refl
 
+-- in the loop: the arms from `at` on, behind the first i of k, whose marks stand at the front of ms, are z words short of the whole
 pub a-start : (s : List ℕ) (p : ℕ → ℕ → Got Term) (ms : List ℕ) (n k at : ℕ)
     → grownOf false 0 0 (armsStep (armsOf s p (unmarked (take 0 ms)) n (k - 0) at)) ≡ armsStep (armsOf s p [] n k at)
 unfolding unmarked
@@ -224,12 +225,10 @@ module _ (s : List ℕ) (p : ℕ → ℕ → Got Term) (ms : List ℕ) (i n k at
       a-more {d} e few long {to} {x} o =
           let most = arity-known s (unmarked (take i ms)) at (is-found _ c l) .1 in
           let f : k - i - 1 ≡ k - (i + 1) = omega arith in
-          rw (e, marked-more ms i (getD s at 0) m (omega arith) (omega arith), ← f, ← grown-twice z x armWords (armsStep (armsOf s p (unmarked (take i ms) ++ ((getD s at 0 % 256, m) ∷ [])) n (k - i - 1) to)))
+          let more = armsStep (armsOf s p (unmarked (take i ms) ++ ((getD s at 0 % 256, m) ∷ [])) n (k - i - 1) to) in
+          rw (e, marked-more ms i (getD s at 0) m (omega arith) (omega arith), ← f, ← grown-twice z x armWords more)
           (on (rw (is-found (arity s (unmarked (take i ms)) at) c l) (goes _ _ _ _ _ _ q o
           (λ t o w. grows _ _ _ _ (arm (getD s at 0 % 256) m t) _ _ _ _ refl (λ ps. refl) (λ ps. omega (arith, of-arm (getD s at 0 % 256) m t ps)) refl))))
-
-pub p-few : {f : Parts} {a : ℕ} → FewArms f a → f ≡ SubjectAndArms → a ≤ mostArms
-p-few h e = h .few e
 
 pub ruleset ways = (
   g-no,

@@ -14,7 +14,7 @@ use Rattle.language.specs.Kinds.{mostArguments, mostByte, atTerm, atArm, row, n
 use Rattle.language.specs.Words.{head, words, wordsᵗ, wordsᵃ}
 use Rattle.language.specs.Scope.{Scoped, Scopedᵗ, Scopedᵃ, s-var, s-fun, s-call, s-bind, s-con, s-cases, s-nil, s-cons, s-none, s-arm}
 use Rattle.language.specs.Limits.{deepest, mostWords, Ranged, Rangedᵗ, Rangedᵃ, r-var, r-kvar, r-fun, r-call, r-bind, r-con, r-cases, r-nil, r-cons, r-none, r-arm, depth, depthᵗ, depthᵃ}
-use Rattle.language.specs.Dead.{dead, Live, Liveᵗ, Liveᵃ, l-var, l-kvar, l-fun, l-call, l-bind, l-con, l-cases, l-nil, l-cons, l-none, l-arm}
+use Rattle.language.specs.Dead.{dead, Live, Liveᵗ, Liveᵃ, l-var, l-fun, l-call, l-bind, l-con, l-cases, l-nil, l-cons, l-none, l-arm}
 use Rattle.language.specs.Places.{Held}
 use Rattle.language.specs.Read.{Got, found, then, made, second, many, unlike, armsOf, opened, term, closed, ended, read}
 use Rattle.language.specs.declared.Parts.the-variants.{Nothing, Body, FunctionAndArguments, BoundAndBody, CountAndArguments, SubjectAndArms}

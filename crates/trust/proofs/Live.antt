@@ -9,15 +9,15 @@ use mathlib.Core.Option.{Option, some, none as nothing}
 use lib.Dec.{eqb}
 use borrow.Author.Tests.{eqb-true, eq-eqb}
 use Rattle.language.specs.Term.{Term, Terms, Arms, con, nil, cons, none, arm, size}
-use Rattle.language.specs.Run.{Value, Values, v-con, v-nil, v-cons, both, took}
+use Rattle.language.specs.Run.{Values, v-con, v-nil, v-cons, both, took}
 use Rattle.language.specs.Dead.{dead, behind, Taken, EachTaken}
 use Rattle.language.proofs.Clash.{never}
 use Rattle.trust.specs.Promises.{TakenInItsMatch}
 
 -- the tags and arities of arms
-pub marks : Arms → List (ℕ × ℕ)
-marks none = []
-marks (arm t n b ps) = (t, n) ∷ marks ps
+pairs : Arms → List (ℕ × ℕ)
+pairs none = []
+pairs (arm t n b ps) = (t, n) ∷ pairs ps
 
 -- `Fresh before ps`: none of the arms ps is dead, where arms with the tags and arities `before` stand before them
 pub data Fresh : List (ℕ × ℕ) → Arms → Type 0 where
@@ -36,12 +36,12 @@ missed nothing h = refl
 missed (some b) h = never cc
 
 -- behind arms one of which takes such a value, and behind these alone, an arm is dead
-dead-got : (t n : ℕ) (ps : Arms) → dead t n (marks ps) ≡ got (took t n ps)
-unfolding marks dead took got
+dead-got : (t n : ℕ) (ps : Arms) → dead t n (pairs ps) ≡ got (took t n ps)
+unfolding pairs dead took got
 dead-got t n none = refl
 dead-got t n (arm t' n' b ps) = go (both t n t' n') (dead-got t n ps)
   where
-    go : (e : Bool) → dead t n (marks ps) ≡ got (took t n ps) → (e || dead t n (marks ps)) ≡ got (cond e (some b) (took t n ps))
+    go : (e : Bool) → dead t n (pairs ps) ≡ got (took t n ps) → (e || dead t n (pairs ps)) ≡ got (cond e (some b) (took t n ps))
     go true h = refl
     go false h = h
 
@@ -61,7 +61,7 @@ size-some-values zero = refl
 size-some-values (suc n) = ap suc (size-some-values n)
 
 -- an arm that is not dead can be taken
-taken : (before : Arms) (t n : ℕ) (b : Term) → dead t n (marks before) ≡ false → Taken before t n b
+taken : (before : Arms) (t n : ℕ) (b : Term) → dead t n (pairs before) ≡ false → Taken before t n b
 unfolding took
 taken before t n b h = record {
   tag = t;
@@ -72,30 +72,30 @@ taken before t n b h = record {
 }
 
 -- and one that can be taken is not dead: a value that it takes has its tag and its arity
-not-dead : {before : Arms} {t n : ℕ} {b : Term} → Taken before t n b → dead t n (marks before) ≡ false
+not-dead : {before : Arms} {t n : ℕ} {b : Term} → Taken before t n b → dead t n (pairs before) ≡ false
 unfolding took got
 not-dead {before} {t} {n} {b} x = go (eqb (x .tag) t) refl (eqb (size (x .arguments)) n) refl (x .takes)
   where
     go : (p : Bool) → eqb (x .tag) t ≡ p → (q : Bool) → eqb (size (x .arguments)) n ≡ q → cond (p && q) (some b) nothing ≡ some b
-        → dead t n (marks before) ≡ false
+        → dead t n (pairs before) ≡ false
     go true i true j h = rw (← eqb-true (x .tag) t i, ← eqb-true (size (x .arguments)) n j) (dead-got (x .tag) (size (x .arguments)) before ∙ ap got (x .passes))
     go true i false j h = never cc
     go false i q j h = never cc
 
 -- what is read forward, arm by arm, is what holds of each of the arms
 fresh-each : (before : List (ℕ × ℕ)) (xs after : Arms) (t n : ℕ) (b : Term) → Fresh before (behind xs (arm t n b after))
-    → dead t n (before ++ marks xs) ≡ false
-unfolding marks behind
+    → dead t n (before ++ pairs xs) ≡ false
+unfolding pairs behind
 fresh-each before none after t n b (f-arm h k) = rw (append-nil before) h
 fresh-each before (arm t' n' b' xs) after t n b (f-arm h k) =
-    rw (← append-assoc before ((t', n') ∷ []) (marks xs)) (fresh-each (before ++ ((t', n') ∷ [])) xs after t n b k)
+    rw (← append-assoc before ((t', n') ∷ []) (pairs xs)) (fresh-each (before ++ ((t', n') ∷ [])) xs after t n b k)
 
 each-fresh : (before : List (ℕ × ℕ)) (ps : Arms)
-    → ((xs after : Arms) (t n : ℕ) (b : Term) → ps ≡ behind xs (arm t n b after) → dead t n (before ++ marks xs) ≡ false) → Fresh before ps
-unfolding marks behind
+    → ((xs after : Arms) (t n : ℕ) (b : Term) → ps ≡ behind xs (arm t n b after) → dead t n (before ++ pairs xs) ≡ false) → Fresh before ps
+unfolding pairs behind
 each-fresh before none h = f-none
 each-fresh before (arm t n b ps) h = f-arm (rw (append-nil before) at (h none ps t n b refl)) (each-fresh (before ++ ((t, n) ∷ [])) ps
-    (λ xs after t' n' b' e. rw (append-assoc before ((t, n) ∷ []) (marks xs)) (h (arm t n b xs) after t' n' b' (ap (arm t n b) e))))
+    (λ xs after t' n' b' e. rw (append-assoc before ((t, n) ∷ []) (pairs xs)) (h (arm t n b xs) after t' n' b' (ap (arm t n b) e))))
 
 pub each-taken : {ps : Arms} → Fresh [] ps → EachTaken ps
 each-taken {ps} f before after t n b e = taken before t n b (fresh-each [] before after t n b (rw e at f))
