@@ -3,36 +3,28 @@
 -- Assumes nothing.
 use Prim.Native.Nat.{ℕ, suc, _+_, _/_, _%_, _<_, _≤_}
 use mathlib.Core.Path.{_≡_, refl, sym, ap, _∙_}
-use mathlib.Core.Bool.{Bool, true, false, _&&_, _||_}
+use mathlib.Core.Bool.{Bool, true, false, _||_}
 use mathlib.Core.List.{List, [], _∷_, _++_, map-append}
 use native.Mathlib.Omega.{arith}
 use native.Mathlib.Numerals.{add-one}
-use lib.Dec.{eqb}
 use lib.ListN.{length, getD, take, drop, set, drop-of-length-le}
-use lib.Seq.{drop-cons, take-suc-set, length-take-le}
+use lib.Seq.{drop-cons, take-suc-set}
 use borrow.Author.Needs.{needs}
-use borrow.Author.Tests.{eq-eqb, eqb-true}
 use Rattle.language.specs.Run.{both}
 use Rattle.language.specs.Dead.{dead}
-use Rattle.arities.specs.Marks.{markOf, unmarked}
+use Rattle.language.proofs.Forms.{both-same, same-both}
+use Rattle.arities.specs.Marks.{markOf, unmark, unmarked}
 
 -- whether one of the marks ms is x
 abbrev pub among : ℕ → List ℕ → Bool
 among x ms = dead (x / 256) (x % 256) (unmarked ms)
 
-same-mark : (x y : ℕ) → y ≡ x → both (x / 256) (x % 256) (y / 256) (y % 256) ≡ true
-same-mark x y e = simp (e, eq-eqb (x / 256) (x / 256) refl, eq-eqb (x % 256) (x % 256) refl)
-
 other-mark : (x y : ℕ) → (y ≡ x → ⊥) → both (x / 256) (x % 256) (y / 256) (y % 256) ≡ false
-other-mark x y n = go (eqb (x / 256) (y / 256)) refl (eqb (x % 256) (y % 256)) refl
+other-mark x y n = go (both (x / 256) (x % 256) (y / 256) (y % 256)) refl
   where
-    go : (p : Bool) → eqb (x / 256) (y / 256) ≡ p → (q : Bool) → eqb (x % 256) (y % 256) ≡ q → (p && q) ≡ false
-    go true i true j =
-        let d : x / 256 ≡ y / 256 = eqb-true _ _ i in
-        let m : x % 256 ≡ y % 256 = eqb-true _ _ j in
-        absurd (n (omega arith))
-    go true i false j = refl
-    go false i q j = refl
+    go : (e : Bool) → both (x / 256) (x % 256) (y / 256) (y % 256) ≡ e → e ≡ false
+    go true e = let p = same-both (x / 256) (x % 256) (y / 256) (y % 256) e in absurd (n (omega (arith, p .0, p .1)))
+    go false e = refl
 
 -- looking through them from the first on: what is still to be looked at decides
 module _ (x i : ℕ) (ms : List ℕ) (rest : among x (drop i ms) ≡ among x ms) where
@@ -46,17 +38,13 @@ module _ (x i : ℕ) (ms : List ℕ) (rest : among x (drop i ms) ≡ among x ms)
     first = ap (among x) (drop-cons ms i 0 h)
 
     pub k-here : getD ms i 0 ≡ x → true ≡ among x ms
-    k-here e = sym (first ∙ simp (same-mark x (getD ms i 0) e)) ∙ rest
+    k-here e = sym (first ∙ rw (e, both-same (x / 256) (x % 256))) ∙ rest
 
     pub k-next : (getD ms i 0 ≡ x → ⊥) → among x (drop (i + 1) ms) ≡ among x ms
     k-next n = simp add-one (sym (first ∙ simp (other-mark x (getD ms i 0) n)) ∙ rest)
 
 -- one mark more
-unmark : ℕ → ℕ × ℕ
-unmark x = (x / 256, x % 256)
-
 unmark-mark : (w m : ℕ) → m < 256 → unmark (markOf w m) ≡ (w % 256, m)
-unfolding unmark
 unmark-mark w m l =
     let t : markOf w m / 256 ≡ w % 256 = omega arith in
     let n : markOf w m % 256 ≡ m = omega arith in
@@ -64,12 +52,8 @@ unmark-mark w m l =
 
 pub marked-more : (ms : List ℕ) (k w m : ℕ) → k < length ms → m < 256
     → unmarked (take (k + 1) (set ms k (markOf w m))) ≡ unmarked (take k ms) ++ ((w % 256, m) ∷ [])
-unfolding unmarked unmark
+unfolding unmarked
 marked-more ms k w m h l = simp add-one (ap unmarked (take-suc-set ms k (markOf w m) h)
     ∙ map-append unmark (take k ms) (markOf w m ∷ []) ∙ ap (λ x. unmarked (take k ms) ++ (x ∷ [])) (unmark-mark w m l))
-
--- the front of a table of marks is as long as it says
-pub front-counts : (ms : List ℕ) (k : ℕ) → k ≤ length ms → k ≡ length (take k ms)
-front-counts ms k h = sym (length-take-le k ms h)
 
 pub ruleset looking = (k-end, k-here, k-next, needs)

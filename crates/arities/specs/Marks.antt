@@ -11,12 +11,15 @@ unfoldable pub countOf : Got ℕ → Count
 countOf (found m to) = Is m to
 countOf (fault e p) = Not e p
 
--- an arm's mark: the low bytes of its two words, its tag and its arity, in one word; and the tags and arities of arms with these marks
+-- an arm's mark: the low bytes of its two words, its tag and its arity, in one word; the two again; and those of several arms
 abbrev pub markOf : ℕ → ℕ → ℕ
 markOf w m = w % 256 * 256 + m % 256
 
+abbrev pub unmark : ℕ → ℕ × ℕ
+unmark x = (x / 256, x % 256)
+
 unfoldable pub unmarked : List ℕ → List (ℕ × ℕ)
-unmarked ms = map (λ x. (x / 256, x % 256)) ms
+unmarked ms = map unmark ms
 
 -- an arm's two words, behind arms with the tags and arities `before`: the second, where the first is an arm's head
 unfoldable pub arity : List ℕ → List (ℕ × ℕ) → ℕ → Got ℕ

@@ -17,15 +17,16 @@ use Rattle.language.specs.Read.{noPlace, Reading, accepted, refused, read}
 use Rattle.language.proofs.Clash.{never}
 use Rattle.language.specs.Calls.{Reply, Outcome, success, refusal, refuses, checked, measured, filled, written}
 use Rattle.sizes.proofs.Promises.{seven-times}
-use Rattle.trust.specs.Promises.{OfWord, of-rule, of-dead-arm, Placed, of-length, of-end, of-word}
+use Rattle.trust.specs.Promises.{of-rule, of-dead-arm, Placed, of-length, of-end}
+use Rattle.trust.specs.Promises as placed
 use Rattle.trust.proofs.Accepted.{accepted-rule}
-use Rattle.trust.proofs.Placed.{places-help}
+use Rattle.trust.proofs.Placed.{past-three, places-help}
 use Rattle.files.specs.Files.{most, version, headerBytes, wordAt, packed, wordsAt, marked, packing, unpacking}
 use Rattle.files.specs.declared.Form.{Form}
 use Rattle.files.specs.declared.Form.the-variants.{Rules, Images}
 use Rattle.files.proofs.Calls.{packed-length, wordsAt-length}
 use Rattle.face.specs.Numbers.{refusals}
-use Rattle.face.specs.Promises.{lastRefusal, Number, base, dead-arm}
+use Rattle.face.specs.Promises.{lastRefusal, Number, base, of-word}
 
 -- a refusal's number but 0, and a place that a rule can have
 pub record Listed (e p : ℕ) : Type 0 where
@@ -35,12 +36,8 @@ pub record Listed (e p : ℕ) : Type 0 where
 
 pub number-small : {e : ℕ} → Number e → e < refusals
 number-small (base l) = omega arith
-number-small dead-arm = omega arith
-
--- a refusal that tests a word
-word-listed : {e p : ℕ} → OfWord e → p ≤ mostWords → Listed e p
-word-listed {e} (of-rule a b) l = record { first = omega arith; number = base {e = e} (omega arith); near = l }
-word-listed of-dead-arm l = record { first = omega arith; number = dead-arm; near = l }
+number-small (of-word (of-rule l m)) = omega arith
+number-small (of-word of-dead-arm) = omega arith
 
 -- what a refusal's place tells shows that both are listed
 reading-listed : (ws : List ℕ) {e p : ℕ} → read ws ≡ refused e p → Listed e p
@@ -49,7 +46,7 @@ reading-listed ws h = go (places-help ws _ _ h)
     go : {e p : ℕ} → Placed ws e p → Listed e p
     go {e} (of-length a b) = record { first = a; number = base {e = e} (omega arith); near = omega arith }
     go (of-end l) = record { first = omega arith; number = base {e = 3} (omega arith); near = l }
-    go (of-word l e i more) = word-listed e (omega arith)
+    go (placed.of-word l o i more) = record { first = omega (arith, past-three o); number = of-word o; near = omega arith }
 
 -- a success of which Q holds, or a refusal of document 01's
 pub data Fair {A : Type 0} (Q : A → Type 0) : Reply A → Type 0 where

@@ -2,6 +2,7 @@
 use Prim.Native.Nat.{ℕ, _<_, _≤_}
 use mathlib.Core.Path.{_≡_}
 use Rattle.language.specs.Limits.{mostWords}
+use Rattle.trust.specs.Promises.{OfWord}
 use Rattle.face.specs.Numbers.{refusals, refusalNumber}
 use Rattle.face.specs.Calls.{Asked, Returned, check, measure, write, pack, unpack, Means}
 
@@ -21,10 +22,10 @@ numberOf (unpack n bs out) r = r .0
 abbrev pub lastRefusal : ℕ
 lastRefusal = 12
 
--- the refusals: 0 (no form), document 01's, and document 02's 18
+-- the refusals: 0 (no form) and document 01's; and those that test a word, document 02's 18 among them
 pub data Number : ℕ → Type 0 where
   base : {e : ℕ} → e ≤ lastRefusal → Number e
-  dead-arm : Number 18
+  of-word : {e : ℕ} → OfWord e → Number e
 
 -- a count, or a refusal at a place that a rule can have
 pub data Returnable : ℕ → Type 0 where

@@ -1,11 +1,14 @@
 -- The passing form of an atom, and of a constructor that is none: document 01's two cases for a constructor, each as an equation. The carried
--- forms of a list are as many as its terms, the variables that a chain's end names are as many as it says, and the arms of a match stay as many.
+-- forms of a list are as many as its terms, the variables that a chain's end names are as many as it says, and the arms of a match stay as many. Copies
+-- of a value are values, as many as they are, and an arm has both the tag and the arity exactly where the numbers are the same.
 -- Assumes nothing.
 use Prim.Native.Nat.{ℕ, zero, suc}
 use mathlib.Core.Path.{_≡_, refl, ap}
-use mathlib.Core.Bool.{true, false, false≢true}
+use mathlib.Core.Bool.{true, false, false≢true, and-eq-true-iff}
+use lib.Dec.{eqb}
+use borrow.Author.Tests.{eq-eqb, eqb-true}
 use Rattle.language.specs.Term.{Term, Terms, Arms, var, kvar, fun, call, bind, con, cases, nil, cons, none, arm, size, sizeᵃ}
-use Rattle.language.specs.Run.{atom, atoms}
+use Rattle.language.specs.Run.{atom, atoms, Value, Values, v-nil, v-cons, itself, both}
 use Rattle.language.specs.Image.{lam, to, downto, making, passing, carried, carrieds, chain, passingᵃ}
 
 -- "Atom: 0201 0401 0900, then its carried form."
@@ -41,3 +44,21 @@ pub size-passingᵃ : (ps : Arms) → sizeᵃ (passingᵃ ps) ≡ sizeᵃ ps
 unfolding passingᵃ sizeᵃ
 size-passingᵃ none = refl
 size-passingᵃ (arm t n b ps) = ap suc (size-passingᵃ ps)
+
+-- copies of a value
+pub itself-values : (o : ℕ) {f : Term} → Value f → Values (itself o f)
+unfolding itself
+itself-values zero h = v-nil
+itself-values (suc o) h = v-cons h (itself-values o h)
+
+pub size-itself : (o : ℕ) (f : Term) → size (itself o f) ≡ o
+unfolding itself size
+size-itself zero f = refl
+size-itself (suc o) f = ap suc (size-itself o f)
+
+-- "both the tag and the arity"
+pub both-same : (t n : ℕ) → both t n t n ≡ true
+both-same t n = simp (eq-eqb t t refl, eq-eqb n n refl)
+
+pub same-both : (t n t' n' : ℕ) → both t n t' n' ≡ true → (t ≡ t') × (n ≡ n')
+same-both t n t' n' e = let p = and-eq-true-iff (eqb t t') (eqb n n') .0 e in (eqb-true t t' (p .0), eqb-true n n' (p .1))

@@ -8,7 +8,7 @@ pub const MOST_ARGUMENTS: u8 = 8;
 // The most arms of a match.
 pub const MOST_ARMS: u8 = 32;
 
-// A head's number is its low byte, the remainder by this.
+// A head's number is its low byte, the remainder by this; its kind is the high byte.
 pub const LOW_BYTE: u16 = 256;
 
 // The levels of terms that a rule may have.

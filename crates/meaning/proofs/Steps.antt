@@ -1,23 +1,22 @@
 -- The steps that an image makes: a passing form is given its continuation, and a chain's ending runs once the chain's terms have come to
 -- values. Each step says how many calls, lets and matches it adds. Assumes nothing.
 use Prim.Native.Nat.{ℕ, suc, _+_, _≤_}
-use mathlib.Core.Bool.{Bool, true, false, _&&_, cond}
+use mathlib.Core.Bool.{Bool, true, false, cond}
 use mathlib.Core.Option.{some, Option·map}
 use mathlib.Core.Path.{_≡_, refl, ap, ap₂}
-use lib.Dec.{eqb}
 use native.Mathlib.Omega.{arith}
 use Rattle.language.specs.Term.{Lang, rules, images, Term, Terms, Arms, kvar, fun, call, con, nil, cons, size}
 use Rattle.language.specs.Scope.{Scoped, Scopedᵃ, s-none, s-arm}
 use Rattle.language.specs.Sub.{look, sub, subᵗ, subᵃ}
-use Rattle.language.specs.Run.{Value, Values, v-fun, v-con, v-nil, v-cons, first, rev, itself, took}
+use Rattle.language.specs.Run.{Value, Values, v-fun, v-con, v-nil, v-cons, first, rev, itself, both, took}
 use Rattle.language.specs.Run.{Run, Runs, taken, bound, called, matched, done, then, Counts, count, counts}
 use Rattle.language.specs.Image.{lam, to, downto, calling, making, passing, carried, carrieds, passingᵃ}
-use Rattle.language.proofs.Forms.{size-carrieds, passing-atom}
+use Rattle.language.proofs.Forms.{size-carrieds, passing-atom, itself-values}
 use Rattle.meaning.specs.Promises.{Comes}
 use Rattle.meaning.proofs.Scopes.{keep}
 use Rattle.meaning.proofs.Forms.{value-atom, carried-value, carrieds-values, carried-scoped, passing-scoped, letting, matching}
 use Rattle.meaning.proofs.Commute.{passing-sub}
-use Rattle.meaning.proofs.Values.{rev-values, carrieds-rev, itself-values, carrieds-itself, in-fun, in-arms}
+use Rattle.meaning.proofs.Values.{rev-values, carrieds-rev, carrieds-itself, in-fun, in-arms}
 
 -- so many calls, lets and matches
 abbrev Counted : Counts → ℕ → ℕ → ℕ → Type 0
@@ -128,7 +127,7 @@ pub took-image : (v k : Term) (t n : ℕ) {ps : Arms} → Scopedᵃ rules 0 0 ps
 unfolding sub passingᵃ took
 took-image v k t n s-none = refl
 took-image v k t n (s-arm {t = t'} {n = n'} {b} {ps} hb hs) =
-    rw (stay hb (cons v (cons k nil)) nil 0 (0 + n') (omega arith), took-image v k t n hs) (either (eqb t t' && eqb n n'))
+    rw (stay hb (cons v (cons k nil)) nil 0 (0 + n') (omega arith), took-image v k t n hs) (either (both t n t' n'))
   where
     either : (e : Bool) → cond e (some (to (passing b) k)) (Option·map (λ c. to (passing c) k) (took t n ps))
         ≡ Option·map (λ c. to (passing c) k) (cond e (some b) (took t n ps))

@@ -1,17 +1,16 @@
 -- What a run comes to, in either language: a value, and a closed one where the term is closed. By induction on the run. Assumes nothing.
 use Prim.Native.Nat.{ℕ, zero, suc, _+_, _≤_}
 use mathlib.Core.Path.{_≡_, refl, ap}
-use mathlib.Core.Bool.{Bool, true, false, _&&_, cond, and-eq-true-iff}
+use mathlib.Core.Bool.{Bool, true, false, cond}
 use mathlib.Core.Option.{some, Option·some-injective, Option·none-ne-some}
-use lib.Dec.{eqb}
-use borrow.Author.Tests.{eqb-true}
 use native.Mathlib.Omega.{arith}
 use Rattle.language.specs.Term.{Lang, Term, Terms, Arms, fun, con, nil, cons, size}
 use Rattle.language.specs.Scope.{HasK, Scoped, Scopedᵗ, Scopedᵃ, s-fun, s-call, s-bind, s-con, s-cases, s-nil, s-cons, s-none, s-arm}
 use Rattle.language.specs.Sub.{sub}
-use Rattle.language.specs.Run.{Value, Values, v-con, v-nil, v-cons, Enters, all, first, rev, itself, took}
+use Rattle.language.specs.Run.{Value, Values, v-con, v-nil, v-cons, Enters, all, first, rev, itself, both, took}
 use Rattle.language.specs.Run.{Run, Runs, taken, built, bound, called, matched, done, then}
 use Rattle.language.specs.Image.{carried, carrieds}
+use Rattle.language.proofs.Forms.{size-itself, same-both}
 use Rattle.meaning.proofs.Scopes.{sub-scoped}
 
 mutual
@@ -52,20 +51,10 @@ unfolding rev carrieds
 carrieds-rev nil acc = refl
 carrieds-rev (cons x xs) acc = carrieds-rev xs (cons x acc)
 
-pub itself-values : (o : ℕ) {f : Term} → Value f → Values (itself o f)
-unfolding itself
-itself-values zero h = v-nil
-itself-values (suc o) h = v-cons h (itself-values o h)
-
 pub itself-scoped : (o : ℕ) {L : Lang} {c d : ℕ} {f : Term} → Scoped L c d f → Scopedᵗ L c d (itself o f)
 unfolding itself
 itself-scoped zero h = s-nil
 itself-scoped (suc o) h = s-cons h (itself-scoped o h)
-
-pub size-itself : (o : ℕ) (f : Term) → size (itself o f) ≡ o
-unfolding itself size
-size-itself zero f = refl
-size-itself (suc o) f = ap suc (size-itself o f)
 
 pub carrieds-itself : (o : ℕ) (f : Term) → carrieds (itself o f) ≡ itself o (carried f)
 unfolding itself carrieds
@@ -85,11 +74,11 @@ in-values (v-con vs) = vs
 pub in-arms : {L : Lang} {c d : ℕ} (t n : ℕ) {ps : Arms} {b : Term} → took t n ps ≡ some b → Scopedᵃ L c d ps → Scoped L c (d + n) b
 unfolding took
 in-arms t n {b} k s-none = absurd (Option·none-ne-some b k)
-in-arms {L} {c} {d} t n {b} k (s-arm {t = t'} {n = n'} {b = b'} {ps} hb hs) = chosen (eqb t t' && eqb n n') refl k (λ k. in-arms t n k hs)
+in-arms {L} {c} {d} t n {b} k (s-arm {t = t'} {n = n'} {b = b'} {ps} hb hs) = chosen (both t n t' n') refl k (λ k. in-arms t n k hs)
   where
-    chosen : (e : Bool) → (eqb t t' && eqb n n') ≡ e → cond e (some b') (took t n ps) ≡ some b → (took t n ps ≡ some b → Scoped L c (d + n) b)
+    chosen : (e : Bool) → both t n t' n' ≡ e → cond e (some b') (took t n ps) ≡ some b → (took t n ps ≡ some b → Scoped L c (d + n) b)
         → Scoped L c (d + n) b
-    chosen true e k more = rw (eqb-true n n' (and-eq-true-iff (eqb t t') (eqb n n') .0 e .1), ← (Option·some-injective b' b k)) hb
+    chosen true e k more = rw (same-both t n t' n' e .1, ← (Option·some-injective b' b k)) hb
     chosen false e k more = more k
 
 -- a body is closed once closed terms are in for all its variables

@@ -106,10 +106,10 @@ module _ {r : Step} {to c : ℕ} {b : Bool} (e : r ≡ Next to b c) (h : wordsOf
   pub s-sum-kept : z + c + armWords ≤ 2 * small * (i + 1)
   s-sum-kept = omega (arith, s-part e h)
 
-  pub s-sum : i < k → k ≤ mostArms → Fits w64 (z + c)
-  s-sum l m = record { fits = omega (arith, s-part e h) }
+  pub s-sum : i < k → k ≤ mostArms → Fits w64 (z + c + armWords)
+  s-sum l m = record { fits = omega (arith, s-sum-kept) }
 
-  pub s-sum-more : i < k → k ≤ mostArms → Fits w64 (z + c + armWords)
-  s-sum-more l m = record { fits = omega (arith, s-part e h) }
+  pub s-sum-first : i < k → k ≤ mostArms → Fits w64 (z + c)
+  s-sum-first l m = record { fits = omega (arith, s-sum l m .fits) }
 
 pub ruleset sums = (row-binds, row-arms, terms-roomy, s-term, s-terms, s-arms, s-part)

@@ -32,7 +32,7 @@ use Rattle.arities.specs.declared.Count.the-variants.{Is, Not}
 use Rattle.arities.specs.Marks.{markOf, unmarked, arity, countOf}
 use Rattle.arities.proofs.Marks.{marked-more}
 use Rattle.arities.proofs.Ways.{is-found, is-fault, arity-known, a-there, arity-then}
-use Rattle.reading.proofs.Sums.{s-sum, s-sum-more, s-sum-kept, sums}
+use Rattle.reading.proofs.Sums.{s-sum, s-sum-first, s-sum-kept, sums}
 use Rattle.reading.proofs.Steps.{came, stops, goes, grows, of-cons, of-construct}
 
 -- what is put together of steps
@@ -264,4 +264,4 @@ pub ruleset ways = (
 )
 
 -- in the loop over arms, whose laws conclude of any step
-pub ruleset arms-ways = (a-start, a-end, a-refused, a-stop, a-more, a-there, s-sum, s-sum-more, s-sum-kept, sums, needs)
+pub ruleset arms-ways = (a-start, a-end, a-refused, a-stop, a-more, a-there, s-sum, s-sum-first, s-sum-kept, sums, needs)

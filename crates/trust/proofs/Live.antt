@@ -1,17 +1,16 @@
 -- An arm can be taken exactly where no arm before it in its match has its tag and arity. The value that takes it has its tag and as many arguments
 -- as its arity says; and no other value could take it.
 -- Assumes nothing.
-use Prim.Native.Nat.{ℕ, zero, suc}
+use Prim.Native.Nat.{ℕ}
 use mathlib.Core.Path.{_≡_, refl, sym, ap, _∙_}
-use mathlib.Core.Bool.{Bool, true, false, _&&_, _||_, cond}
+use mathlib.Core.Bool.{Bool, true, false, _||_, cond}
 use mathlib.Core.List.{List, [], _∷_, _++_, append-assoc, append-nil}
 use mathlib.Core.Option.{Option, some, none as nothing}
-use lib.Dec.{eqb}
-use borrow.Author.Tests.{eqb-true, eq-eqb}
-use Rattle.language.specs.Term.{Term, Terms, Arms, con, nil, cons, none, arm, size}
-use Rattle.language.specs.Run.{Values, v-con, v-nil, v-cons, both, took}
+use Rattle.language.specs.Term.{Term, Arms, con, nil, none, arm, size}
+use Rattle.language.specs.Run.{v-con, v-nil, itself, both, took}
 use Rattle.language.specs.Dead.{dead, behind, Taken, EachTaken}
 use Rattle.language.proofs.Clash.{never}
+use Rattle.language.proofs.Forms.{itself-values, size-itself, both-same, same-both}
 use Rattle.trust.specs.Promises.{TakenInItsMatch}
 
 -- the tags and arities of arms
@@ -45,42 +44,27 @@ dead-got t n (arm t' n' b ps) = go (both t n t' n') (dead-got t n ps)
     go true h = refl
     go false h = h
 
--- so many arguments
-some-values : ℕ → Terms
-some-values zero = nil
-some-values (suc n) = cons (con 0 nil) (some-values n)
-
-are-values : (n : ℕ) → Values (some-values n)
-unfolding some-values
-are-values zero = v-nil
-are-values (suc n) = v-cons (v-con v-nil) (are-values n)
-
-size-some-values : (n : ℕ) → size (some-values n) ≡ n
-unfolding some-values size
-size-some-values zero = refl
-size-some-values (suc n) = ap suc (size-some-values n)
-
--- an arm that is not dead can be taken
+-- an arm that is not dead can be taken: by the constructor of its tag whose arguments are copies of one value
 taken : (before : Arms) (t n : ℕ) (b : Term) → dead t n (pairs before) ≡ false → Taken before t n b
-unfolding took
+unfolding took size
 taken before t n b h = record {
   tag = t;
-  arguments = some-values n;
-  value = v-con (are-values n);
-  passes = rw (size-some-values n) (missed (took t n before) (sym (dead-got t n before) ∙ h));
-  takes = rw (size-some-values n) (simp (eq-eqb t t refl, eq-eqb n n refl));
+  arguments = itself n (con 0 nil);
+  value = v-con (itself-values n (v-con v-nil));
+  passes = rw (size-itself n (con 0 nil)) (missed (took t n before) (sym (dead-got t n before) ∙ h));
+  takes = rw (size-itself n (con 0 nil), both-same t n);
 }
 
 -- and one that can be taken is not dead: a value that it takes has its tag and its arity
 not-dead : {before : Arms} {t n : ℕ} {b : Term} → Taken before t n b → dead t n (pairs before) ≡ false
 unfolding took got
-not-dead {before} {t} {n} {b} x = go (eqb (x .tag) t) refl (eqb (size (x .arguments)) n) refl (x .takes)
+not-dead {before} {t} {n} {b} x = go (both (x .tag) (size (x .arguments)) t n) refl (x .takes)
   where
-    go : (p : Bool) → eqb (x .tag) t ≡ p → (q : Bool) → eqb (size (x .arguments)) n ≡ q → cond (p && q) (some b) nothing ≡ some b
-        → dead t n (pairs before) ≡ false
-    go true i true j h = rw (← eqb-true (x .tag) t i, ← eqb-true (size (x .arguments)) n j) (dead-got (x .tag) (size (x .arguments)) before ∙ ap got (x .passes))
-    go true i false j h = never cc
-    go false i q j h = never cc
+    go : (e : Bool) → both (x .tag) (size (x .arguments)) t n ≡ e → cond e (some b) nothing ≡ some b → dead t n (pairs before) ≡ false
+    go true e h =
+        let p = same-both (x .tag) (size (x .arguments)) t n e in
+        rw (← p .0, ← p .1) (dead-got (x .tag) (size (x .arguments)) before ∙ ap got (x .passes))
+    go false e h = never cc
 
 -- what is read forward, arm by arm, is what holds of each of the arms
 fresh-each : (before : List (ℕ × ℕ)) (xs after : Arms) (t n : ℕ) (b : Term) → Fresh before (behind xs (arm t n b after))

@@ -44,7 +44,7 @@ record Alike (s : List ℕ) (k at : ℕ) {A : Type 0} (g h : Got A) : Type 0 whe
   same : Settled k g → (at ≤ k) × (h ≡ g)
 
 -- a refusal that tests a word is none of those before
-past-three : {e : ℕ} → OfWord e → 4 ≤ e
+pub past-three : {e : ℕ} → OfWord e → 4 ≤ e
 past-three (of-rule l m) = l
 past-three of-dead-arm = omega arith
 

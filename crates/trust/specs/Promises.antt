@@ -2,8 +2,8 @@
 use Prim.Native.Nat.{ℕ, _+_, _<_, _≤_, _^_}
 use mathlib.Core.Path.{_≡_}
 use mathlib.Core.List.{List, _++_}
-use lib.ListN.{length, getD, take}
 use mathlib.Core.Option.{some}
+use lib.ListN.{length, getD, take}
 use Rattle.language.specs.Term.{Lang, rules, images, Term, Arms, arm, size}
 use Rattle.language.specs.Words.{words}
 use Rattle.language.specs.Limits.{mostWords, Ranged, Rule}

@@ -30,11 +30,10 @@ use native.Mathlib.Omega.{arith}
 use mathlib.Core.Path.{_≡_, refl}
 use mathlib.Core.Bool.{false}
 use mathlib.Core.List.{[]}
-use lib.ListN.{length, take}
+use lib.ListN.{length, take, length-take}
 use Rattle.language.specs.Kinds.{mostArms, mostByte}
 use Rattle.language.specs.Read.{armsOf, term}
 use Rattle.arities.specs.Marks.{unmarked}
-use Rattle.arities.proofs.Marks.{front-counts}
 use Rattle.reading.specs.Steps.{aWord, small, armsStep, grownOf}
 use Rattle.reading.proofs.Sums.{sums}
 use Rattle.reading.proofs.Ways.{ways, arms-ways}
@@ -116,7 +115,7 @@ pub +arms-at+opened-at+term-at+terms-at-spec : {M : Type 1} → statement M
 +arms-at+opened-at+term-at+terms-at-spec =
     close μ-arms-at μ-opened-at μ-term-at μ-terms-at
     (λ t. arms-at-lts.spec (arms-at-calls t) (arms-at-at t) arms-at.Post arms-at-Inv-loop arms-at-μ-loop
-    (λ c. (search arms-ways, omega arith, omega arith, refl)) (λ c. search arms-ways) (λ c. front-counts _ _ (omega arith))
+    (λ c. (search arms-ways, omega arith, omega arith, refl)) (λ c. search arms-ways) (λ c. simp length-take (omega arith))
     (λ c κs. search arms-ways) (λ c. search arms-ways) (λ c. search arms-ways) (λ c. search arms-ways) (λ c. search arms-ways)
     (λ c. search arms-ways) (λ c κs. search arms-ways) (λ c. search arms-ways) (λ c. search arms-ways) (λ c. search arms-ways)
     (λ c. search arms-ways) (λ c κs. search arms-ways) (λ c. search arms-ways) (λ c. search arms-ways) (λ c. search arms-ways)
