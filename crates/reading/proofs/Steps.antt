@@ -1,19 +1,19 @@
 -- What a step says of the reading that it answers for: a fault of a part is the whole's, a part that was read is followed by what stands after
--- it, and a larger thing is as many words longer as its form adds. Nothing here speaks of code.
+-- it, a larger thing is as many words longer as its form adds, and a list is its first things joined to the rest. Nothing here speaks of code.
 -- Assumes nothing.
 use Prim.Native.Nat.{ℕ, _+_, _-_, _*_}
-use mathlib.Core.Path.{_≡_, sym, ap, _∙_}
-use mathlib.Core.Bool.{Bool, cond, _&&_}
+use mathlib.Core.Path.{_≡_, refl, sym, ap, _∙_}
+use mathlib.Core.Bool.{Bool, true, false, cond, _&&_}
 use mathlib.Core.List.{List}
 use native.Mathlib.Omega.{arith}
-use Rattle.language.specs.Term.{Term, Terms, con, cons, size}
+use Rattle.language.specs.Term.{Terms, con, size}
 use Rattle.language.specs.Run.{atom, atoms}
 use Rattle.language.specs.Read.{Got, found, fault, then, made, many, term}
 use Rattle.language.proofs.Clash.{never}
-use Rattle.sizes.specs.Lengths.{passingLength, passingLengths}
+use Rattle.sizes.specs.Lengths.{passingLength}
 use Rattle.sizes.proofs.Lengths.{by-test, of-con, of-con-unfinished}
 use Rattle.trust.proofs.Accepted.{Holds, held, left, Goodᵗ, many-good, term-good}
-use Rattle.reading.specs.Steps.{constructorWords, savedWords, chainLength, stepOf, termStep, termsStep, grownOf, joinedOf, builtOf}
+use Rattle.reading.specs.Steps.{constructorWords, savedWords, chainLength, stepOf, termStep, termsStep, grownOf, builtOf}
 use Rattle.reading.specs.declared.Step.{Step}
 use Rattle.reading.specs.declared.Step.the-variants.{Next, No}
 
@@ -42,12 +42,36 @@ unfolding stepOf made grownOf
 grows α π β ρ f (found a at) b z k h p q e = e ∙ ap (grownOf b z k) h ∙ simp (p a, q a)
 grows α π β ρ f (fault n at) b z k h p q e = e ∙ ap (grownOf b z k) h
 
--- a chain with a term in front of it
-pub of-cons : (t : Term) (g : Got Terms) {z : ℕ} {b : Bool} {r x : Step} → atom t ≡ b → passingLength t ≡ z → r ≡ termsStep g → x ≡ joinedOf b z r
-    → x ≡ termsStep (made (cons t) g)
-unfolding stepOf made joinedOf atom passingLengths chainLength size
-of-cons t (found ts at) {z = z} {b = b} p q h e = e ∙ ap (joinedOf b z) h ∙ simp (← p, ← q) (ap (Next at (atom t && atoms ts)) (omega arith))
-of-cons t (fault n at) {z = z} {b = b} p q h e = e ∙ ap (joinedOf b z) h
+-- what was read before, z words of it, all atoms or not as told; and behind it what a step says of the rest
+unfoldable pub joinedOf : Bool → ℕ → Step → Step
+joinedOf b z (Next to c y) = Next to (b && c) (z + y)
+joinedOf b z (No e p) = No e p
+
+-- nothing was read before
+pub joined-none : (r : Step) → joinedOf true 0 r ≡ r
+unfolding joinedOf
+joined-none (Next to c y) = ap (Next to c) (omega arith)
+joined-none (No e p) = refl
+
+-- one thing more was read before, of c words and k of its own
+pub joined-twice : (a b : Bool) (z c k : ℕ) (r : Step) → joinedOf a z (joinedOf b (c + k) r) ≡ joinedOf (a && b) (z + c + k) r
+unfolding joinedOf
+joined-twice true b z c k (Next to d y) = ap (Next to (b && d)) (omega arith)
+joined-twice false b z c k (Next to d y) = ap (Next to false) (omega arith)
+joined-twice a b z c k (No e p) = refl
+
+-- nothing is left to read
+pub joined-all : (b : Bool) (z to : ℕ) → joinedOf b z (Next to true 0) ≡ Next to b z
+unfolding joinedOf
+joined-all true z to = ap (Next to true) (omega arith)
+joined-all false z to = ap (Next to false) (omega arith)
+
+-- a list is what was read first, joined to the rest
+pub joins : {A B : Type 0} (α : A → Bool) (π : A → ℕ) (β : B → Bool) (ρ : B → ℕ) (f : A → B) (g : Got A) (b : Bool) (z : ℕ)
+    → ((a : A) → β (f a) ≡ (b && α a)) → ((a : A) → ρ (f a) ≡ z + π a) → joinedOf b z (stepOf α π g) ≡ stepOf β ρ (made f g)
+unfolding stepOf made joinedOf
+joins α π β ρ f (found a at) b z p q = simp (p a, q a)
+joins α π β ρ f (fault n at) b z p q = refl
 
 -- a constructor's words by the test whether its arguments are atoms
 con-words : (a : ℕ) (ts : Terms)

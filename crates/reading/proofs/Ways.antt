@@ -1,10 +1,10 @@
 -- One law for each way out of the reading functions: what was tested and called on the way, in the code's own form, and the answer that is then
--- right. `search ways` finds a law's premises in what is known where the code returns. A law's first letter says of which function: g grown, j joined,
--- b built, t term_at, p opened_at, l terms_at, a arms_at.
+-- right. `search ways` finds a law's premises in what is known where the code returns. A law's first letter says of which function: g grown, b built,
+-- t term_at, p opened_at, l terms_at, a arms_at.
 -- Assumes nothing.
 use Prim.Native.Nat.{ℕ, zero, suc, _+_, _-_, _*_, _%_, _<_, _≤_}
-use mathlib.Core.Path.{_≡_, refl, ap, _∙_}
-use mathlib.Core.Bool.{Bool, true, false}
+use mathlib.Core.Path.{_≡_, refl, sym, ap, _∙_}
+use mathlib.Core.Bool.{Bool, true, false, _&&_}
 use mathlib.Core.List.{List, [], _∷_, _++_}
 use mathlib.Core.Logic.{_⊎_, inl, inr, ⊎-elim}
 use native.Mathlib.Omega.{arith}
@@ -12,10 +12,10 @@ use native.Mathlib.Numerals.{sub-one}
 use lib.ListN.{length, getD, take, set}
 use borrow.Author.Needs.{needs}
 use borrow.Author.Tests.{lt-ltb, le-ltb}
-use Rattle.language.specs.Term.{Term, Arms, fun, call, bind, cases, cons, arm, size}
-use Rattle.language.specs.Run.{atom}
+use Rattle.language.specs.Term.{Term, fun, call, bind, cases, cons, arm, size}
+use Rattle.language.specs.Run.{atom, atoms}
 use Rattle.language.specs.Kinds.{mostArms, atTerm, headOf}
-use Rattle.language.specs.Read.{Got, found, fault, then, made, headed, second, many, armsOf, opened, term}
+use Rattle.language.specs.Read.{Got, fault, then, made, headed, second, many, armsOf, opened, term}
 use Rattle.language.specs.declared.Parts.{Parts}
 use Rattle.language.specs.declared.Parts.the-variants.{Nothing, Body, FunctionAndArguments, BoundAndBody, CountAndArguments, SubjectAndArms, ArityAndBody}
 use Rattle.language.specs.declared.Row.{Row}
@@ -24,7 +24,7 @@ use Rattle.language.specs.declared.Head.the-variants.{Refused, Opens}
 use Rattle.sizes.specs.Lengths.{passingLengths}
 use Rattle.sizes.proofs.Lengths.{of-var, of-fun, of-call, of-bind, of-cases, of-none, of-arm}
 use Rattle.reading.specs.Steps.{variableWords, functionWords, callWords, letWords, constructorWords, matchWords, armWords, chainedWords, savedWords}
-use Rattle.reading.specs.Steps.{chainLength, stepOf, termStep, termsStep, armsStep, FewArms, grownOf, joinedOf, builtOf}
+use Rattle.reading.specs.Steps.{chainLength, stepOf, termStep, termsStep, armsStep, FewArms, grownOf, builtOf}
 use Rattle.reading.specs.declared.Step.{Step}
 use Rattle.reading.specs.declared.Step.the-variants.{Next, No}
 use Rattle.arities.specs.declared.Count.{Count}
@@ -32,18 +32,14 @@ use Rattle.arities.specs.declared.Count.the-variants.{Is, Not}
 use Rattle.arities.specs.Marks.{markOf, unmarked, arity, countOf}
 use Rattle.arities.proofs.Marks.{marked-more}
 use Rattle.arities.proofs.Ways.{is-found, is-fault, arity-known, a-there, arity-then}
-use Rattle.reading.proofs.Sums.{s-sum, s-sum-first, s-sum-kept, sums}
-use Rattle.reading.proofs.Steps.{came, stops, goes, grows, of-cons, of-construct}
+use Rattle.reading.proofs.Sums.{sums, list-sums}
+use Rattle.reading.proofs.Steps.{came, stops, goes, grows, joinedOf, joined-none, joined-twice, joined-all, joins, of-construct}
 
 -- what is put together of steps
 module _ {r : Step} {e p : ℕ} (h : r ≡ No e p) where
   pub g-no : (b : Bool) (z k : ℕ) → No e p ≡ grownOf b z k r
   unfolding grownOf
   g-no b z k = rw h
-
-  pub j-no : (b : Bool) (z : ℕ) → No e p ≡ joinedOf b z r
-  unfolding joinedOf
-  j-no b z = rw h
 
   pub b-no : (m : ℕ) → No e p ≡ builtOf m r
   unfolding builtOf
@@ -53,14 +49,6 @@ module _ {r : Step} {to y : ℕ} {c : Bool} (h : r ≡ Next to c y) where
   pub g-next : (b : Bool) (z k : ℕ) → Next to b (y + z + k) ≡ grownOf b z k r
   unfolding grownOf
   g-next b z k = rw h
-
-  pub j-atom : (b : Bool) (z : ℕ) → b ≡ true → Next to c (y + z + chainedWords) ≡ joinedOf b z r
-  unfolding joinedOf
-  j-atom b z q = rw (h, q)
-
-  pub j-other : (b : Bool) (z : ℕ) → b ≡ false → Next to false (y + z + chainedWords) ≡ joinedOf b z r
-  unfolding joinedOf
-  j-other b z q = rw (h, q)
 
   pub b-atoms : (m : ℕ) → c ≡ true → Next to c (y + constructorWords - savedWords * m) ≡ builtOf m r
   unfolding builtOf
@@ -157,18 +145,37 @@ unfolding many
 many-more p zero at z = absurd (z refl)
 many-more p (suc k) at z = simp sub-one
 
-module _ (p : ℕ → Got Term) (k at : ℕ) where
-  pub l-end : k ≡ 0 → Next at true 0 ≡ termsStep (many p k at)
+-- behind the first i of k things there are more
+more-left : {i k : ℕ} → i < k → k - i ≡ 0 → ⊥
+more-left h e = omega arith
+
+-- where the ways through `all && b` meet
+pub l-met : {a b now : Bool} → ((a ≡ true) × (now ≡ b)) ⊎ ((a ≡ false) × (now ≡ a)) → now ≡ (a && b)
+l-met h = ⊎-elim (λ w. rw (w .0, w .1)) (λ w. rw (w .1, w .0)) h
+
+-- in the loop: behind the first i of k terms, which have z words and are all atoms or not, the terms from `at` on make up the whole
+pub l-start : (p : ℕ → Got Term) (k at : ℕ) → joinedOf true 0 (termsStep (many p (k - 0) at)) ≡ termsStep (many p k at)
+l-start p k at = let e : k - 0 ≡ k = omega arith in rw e (joined-none (termsStep (many p k at)))
+
+module _ (p : ℕ → Got Term) (i k at z : ℕ) (all : Bool) {whole : Step} (rest : joinedOf all z (termsStep (many p (k - i) at)) ≡ whole) where
+  pub l-end : k ≤ i → Next at all z ≡ whole
   unfolding many stepOf atom passingLengths chainLength size
-  l-end z = simp z
+  l-end h = let e : k - i ≡ 0 = omega arith in sym (joined-all all z at) ∙ (rw e at rest)
 
-  module _ (z : k ≡ 0 → ⊥) where
-    pub l-stop : {y : Step} {b q : ℕ} → y ≡ termStep (p at) → y ≡ No b q → No b q ≡ termsStep (many p k at)
-    l-stop e i = came _ _ (many-more p k at z) (stops _ _ _ _ _ _ e i)
+  module _ (h : i < k) {y : Step} (e : y ≡ termStep (p at)) where
+    pub l-stop : {b q : ℕ} → y ≡ No b q → No b q ≡ whole
+    unfolding joinedOf
+    l-stop {b} {q} o = ap (joinedOf all z) (came _ _ {x = No b q} (many-more p (k - i) at (more-left h)) (stops _ _ _ _ _ _ e o)) ∙ rest
 
-    pub l-more : {x y v : Step} {to c : ℕ} {b : Bool} → y ≡ termStep (p at) → y ≡ Next to b c → v ≡ termsStep (many p (k - 1) to) → x ≡ joinedOf b c v
-        → x ≡ termsStep (many p k at)
-    l-more e i m u = came _ _ (many-more p k at z) (goes _ _ _ _ _ _ e i (λ t o w. of-cons t _ o w m u))
+    pub l-more : {to c : ℕ} {b now : Bool} → y ≡ Next to b c → now ≡ (all && b)
+        → joinedOf now (z + c + chainedWords) (termsStep (many p (k - (i + 1)) to)) ≡ whole
+    unfolding atom passingLengths chainLength size
+    l-more {to} {c} {b} o m =
+        let f : k - i - 1 ≡ k - (i + 1) = omega arith in
+        let more = termsStep (many p (k - i - 1) to) in
+        rw (m, ← f, ← joined-twice all b z c chainedWords more)
+        (ap (joinedOf all z) (came _ _ (many-more p (k - i) at (more-left h)) (goes _ _ _ _ _ _ e o
+        (λ t u w. joins _ _ _ _ (cons t) _ b (c + chainedWords) (λ ts. ap (λ x. x && atoms ts) u) (λ ts. omega arith)))) ∙ rest)
 
 -- arms
 armed : (s : List ℕ) (p : ℕ → ℕ → Got Term) (before : List (ℕ × ℕ)) (n k at : ℕ) → (k ≡ 0 → ⊥)
@@ -178,65 +185,49 @@ unfolding armsOf
 armed s p before n zero at z = absurd (z refl)
 armed s p before n (suc k) at z = simp sub-one (arity-then s before at _)
 
--- a step that grows by nothing, and one that grows twice
-grown-none : (g : Got Arms) → grownOf false 0 0 (armsStep g) ≡ armsStep g
-unfolding grownOf stepOf
-grown-none (found ps to) = ap (Next to false) (omega arith)
-grown-none (fault e p) = refl
-
-grown-twice : (z c k : ℕ) (r : Step) → grownOf false z 0 (grownOf false c k r) ≡ grownOf false (z + c + k) 0 r
-unfolding grownOf
-grown-twice z c k (Next to b y) = ap (Next to false) (omega arith)
-grown-twice z c k (No e p) = refl
-
--- in the loop: the arms from `at` on, behind the first i of k, whose marks stand at the front of ms, are z words short of the whole
+-- in the loop: behind the first i of k arms, which have z words and whose marks stand at the front of ms, the arms from `at` on make up the whole
 pub a-start : (s : List ℕ) (p : ℕ → ℕ → Got Term) (ms : List ℕ) (n k at : ℕ)
-    → grownOf false 0 0 (armsStep (armsOf s p (unmarked (take 0 ms)) n (k - 0) at)) ≡ armsStep (armsOf s p [] n k at)
+    → joinedOf true 0 (armsStep (armsOf s p (unmarked (take 0 ms)) n (k - 0) at)) ≡ armsStep (armsOf s p [] n k at)
 unfolding unmarked
-a-start s p ms n k at = let e : k - 0 ≡ k = omega arith in rw e (grown-none (armsOf s p [] n k at))
+a-start s p ms n k at = let e : k - 0 ≡ k = omega arith in rw e (joined-none (armsStep (armsOf s p [] n k at)))
 
 module _ (s : List ℕ) (p : ℕ → ℕ → Got Term) (ms : List ℕ) (i n k at z : ℕ) {whole : Step}
-    (rest : grownOf false z 0 (armsStep (armsOf s p (unmarked (take i ms)) n (k - i) at)) ≡ whole) where
+    (rest : joinedOf true z (armsStep (armsOf s p (unmarked (take i ms)) n (k - i) at)) ≡ whole) where
   pub a-end : k ≤ i → Next at false z ≡ whole
-  unfolding armsOf stepOf grownOf
+  unfolding armsOf stepOf joinedOf
   a-end h = let e : k - i ≡ 0 = omega arith in ap (Next at false) (omega (arith, of-none)) ∙ (rw e at rest)
 
   module _ (h : i < k) {y : Count} (c : y ≡ countOf (arity s (unmarked (take i ms)) at)) where
-    left : k - i ≡ 0 → ⊥
-    left e = omega arith
-
     -- where the next arm comes to a step, so does the whole
     on : {x : Step} → x ≡ armsStep (then (arity s (unmarked (take i ms)) at) (λ m to. then (p (n + m) to) (λ b past. made (arm (getD s at 0 % 256) m b)
-        (armsOf s p (unmarked (take i ms) ++ ((getD s at 0 % 256, m) ∷ [])) n (k - i - 1) past)))) → grownOf false z 0 x ≡ whole
-    on e = ap (grownOf false z 0) (came _ _ (armed s p (unmarked (take i ms)) n (k - i) at left) e) ∙ rest
+        (armsOf s p (unmarked (take i ms) ++ ((getD s at 0 % 256, m) ∷ [])) n (k - i - 1) past)))) → joinedOf true z x ≡ whole
+    on e = ap (joinedOf true z) (came _ _ (armed s p (unmarked (take i ms)) n (k - i) at (more-left h)) e) ∙ rest
 
     pub a-refused : {b q : ℕ} → y ≡ Not b q → No b q ≡ whole
-    unfolding stepOf then grownOf
+    unfolding stepOf then joinedOf
     a-refused {b} {q} l = on {x = No b q} (rw (is-fault (arity s (unmarked (take i ms)) at) c l))
 
     module _ {m j : ℕ} (l : y ≡ Is m j) {v : Step} (q : v ≡ termStep (p (n + m) j)) where
       pub a-stop : {b r : ℕ} → v ≡ No b r → No b r ≡ whole
-      unfolding then grownOf
+      unfolding then joinedOf
       a-stop {b} {r} o = on {x = No b r} (rw (is-found (arity s (unmarked (take i ms)) at) c l) (stops _ _ _ _ _ _ q o))
 
       pub a-more : {d : ℕ} → d ≡ markOf (getD s at 0) m → k ≤ mostArms → length ms ≡ mostArms → {to x : ℕ} {b : Bool} → v ≡ Next to b x
-          → grownOf false (z + x + armWords) 0 (armsStep (armsOf s p (unmarked (take (i + 1) (set ms i d))) n (k - (i + 1)) to)) ≡ whole
+          → joinedOf true (z + x + armWords) (armsStep (armsOf s p (unmarked (take (i + 1) (set ms i d))) n (k - (i + 1)) to)) ≡ whole
       unfolding then
       a-more {d} e few long {to} {x} o =
           let most = arity-known s (unmarked (take i ms)) at (is-found _ c l) .1 in
           let f : k - i - 1 ≡ k - (i + 1) = omega arith in
           let more = armsStep (armsOf s p (unmarked (take i ms) ++ ((getD s at 0 % 256, m) ∷ [])) n (k - i - 1) to) in
-          rw (e, marked-more ms i (getD s at 0) m (omega arith) (omega arith), ← f, ← grown-twice z x armWords more)
+          rw (e, marked-more ms i (getD s at 0) m (omega arith) (omega arith), ← f, ← joined-twice true true z x armWords more)
           (on (rw (is-found (arity s (unmarked (take i ms)) at) c l) (goes _ _ _ _ _ _ q o
-          (λ t o w. grows _ _ _ _ (arm (getD s at 0 % 256) m t) _ _ _ _ refl (λ ps. refl) (λ ps. omega (arith, of-arm (getD s at 0 % 256) m t ps)) refl))))
+          (λ t o w. joins _ _ _ _ (arm (getD s at 0 % 256) m t) _ true (x + armWords) (λ ps. refl)
+          (λ ps. omega (arith, of-arm (getD s at 0 % 256) m t ps))))))
 
 pub ruleset ways = (
   g-no,
-  j-no,
   b-no,
   g-next,
-  j-atom,
-  j-other,
   b-atoms,
   b-others,
   t-none,
@@ -254,14 +245,13 @@ pub ruleset ways = (
   p-uncounted,
   p-call,
   p-con,
-  l-end,
-  l-stop,
-  l-more,
   inl,
   inr,
   sums,
   needs,
 )
 
--- in the loop over arms, whose laws conclude of any step
-pub ruleset arms-ways = (a-start, a-end, a-refused, a-stop, a-more, a-there, s-sum, s-sum-first, s-sum-kept, sums, needs)
+-- in the loops, whose laws conclude of any step
+pub ruleset terms-ways = (l-start, l-end, l-stop, l-more, list-sums, sums, needs)
+
+pub ruleset arms-ways = (a-start, a-end, a-refused, a-stop, a-more, a-there, list-sums, sums, needs)

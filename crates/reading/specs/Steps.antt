@@ -2,7 +2,7 @@
 -- how many words it has in an image.
 use Prim.Native.Nat.{ℕ, _+_, _-_, _*_, _≤_}
 use mathlib.Core.Path.{_≡_}
-use mathlib.Core.Bool.{Bool, false, cond, _&&_}
+use mathlib.Core.Bool.{Bool, false, cond}
 use Rattle.language.specs.Term.{Term, Terms, Arms, size}
 use Rattle.language.specs.Run.{atom, atoms}
 use Rattle.language.specs.Kinds.{mostArms}
@@ -85,11 +85,6 @@ wordsOf (No e p) = 0
 unfoldable pub grownOf : Bool → ℕ → ℕ → Step → Step
 grownOf b z by (Next to c y) = Next to b (y + z + by)
 grownOf b z by (No e p) = No e p
-
--- a chain with a term in front of it, whose passing form has z words
-unfoldable pub joinedOf : Bool → ℕ → Step → Step
-joinedOf b z (Next to c y) = Next to (b && c) (y + z + chainedWords)
-joinedOf b z (No e p) = No e p
 
 -- a constructor of m arguments
 unfoldable pub builtOf : ℕ → Step → Step

@@ -12,7 +12,7 @@ ghost use lib.ListN.{length};
 ghost use Rattle.language.specs.Kinds.{mostArms, mostByte};
 ghost use Rattle.language.specs.Read.{many, armsOf, opened, term, closed, read};
 ghost use Rattle.language.specs.Calls.{replyOf, checked, measured};
-ghost use Rattle.reading.specs.Steps.{aWord, small, termStep, termsStep, armsStep, FewArms, wordsOf, grownOf, joinedOf, builtOf, Roomy};
+ghost use Rattle.reading.specs.Steps.{aWord, small, termStep, termsStep, armsStep, FewArms, wordsOf, grownOf, builtOf, Roomy};
 ghost use Rattle.reading.specs.Answers.{checkedReply};
 
 // The words of a variable's passing form, and those that each other form has besides its parts' passing forms and chains.
@@ -59,23 +59,6 @@ fn grown(r: Step, all: bool, z: usize, by: usize) -> Step
     match r {
         Step::No(e, p) => Step::No(e, p),
         Step::Next(to, _, y) => Step::Next(to, all, y + z + by),
-    }
-}
-
-// A chain with a term in front of it, whose passing form has z words.
-fn joined(r: Step, all: bool, z: usize) -> Step
-    requires { ⌜ (wordsOf r ≤ small) × (z ≤ small) ⌝ }
-    ensures { λ x. ⌜ x ≡ joinedOf all z r ⌝ }
-{
-    match r {
-        Step::No(e, p) => Step::No(e, p),
-        Step::Next(to, b, y) => {
-            if all {
-                Step::Next(to, b, y + z + CHAINED_WORDS)
-            } else {
-                Step::Next(to, false, y + z + CHAINED_WORDS)
-            }
-        }
     }
 }
 
@@ -160,13 +143,22 @@ fn terms_at(s: &[u16], at: usize, left: usize, bound: usize, count: usize) -> St
     requires { ⌜ (length (now s) ≤ aWord) × (bound + aWord * left ≤ small) × (count < aWord) ⌝ }
     ensures { λ r. ⌜ r ≡ termsStep (many (term (now (s .entry)) left bound) count at) ⌝ }
 {
-    if count == 0 {
-        return Step::Next(at, true, 0);
+    let mut next = at;
+    let mut all = true;
+    let mut words = 0;
+    let mut i = 0;
+    while i < count {
+        match term_at(s, next, left, bound) {
+            Step::No(e, there) => return Step::No(e, there),
+            Step::Next(to, b, z) => {
+                next = to;
+                all = all && b;
+                words = words + z + CHAINED_WORDS;
+            }
+        }
+        i += 1;
     }
-    match term_at(s, at, left, bound) {
-        Step::No(e, there) => Step::No(e, there),
-        Step::Next(to, b, z) => joined(terms_at(s, to, left, bound, count - 1), b, z),
-    }
+    Step::Next(next, all, words)
 }
 
 // The arms of a match, so many. Each arm's mark is kept for those behind it.

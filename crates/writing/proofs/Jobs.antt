@@ -1,4 +1,5 @@
--- Jobs done one after another, and a job that is done as another: what is ready for the next step, and what was done when all steps were.
+-- Jobs done one after another, a job that is done as another, and what a loop has left of a job: what is ready for the next step, and what was done
+-- when all steps were.
 -- Assumes nothing.
 use Prim.Native.Nat.{ℕ, _+_}
 use mathlib.Core.Path.{_≡_, refl, ap}
@@ -81,3 +82,25 @@ module _ {J K : Job} {s : List ℕ} {at : ℕ} (P : Plan J K s at) where
     ends = record { end = λ x e k. let y = P .plan x e k in D .ends .end (y .thing) e (y .seen) };
     puts = λ x e k. let y = P .plan x e k in put-as (y .same) (D .puts (y .thing) e (y .seen));
   }
+
+-- in a loop: J is all that is left of the job K, which was begun on o₀ at p₀ and at₀
+pub record Left (K : Job) (o₀ : List ℕ) (p₀ : ℕ) (s : List ℕ) (at₀ : ℕ) (J : Job) (o : List ℕ) (p at : ℕ) : Type 0 where
+  pub ready : Ready J o p s at
+  pub whole : {o′ : List ℕ} {to end : ℕ} → Done J o p s at o′ to end → Done K o₀ p₀ s at₀ o′ to end
+
+pub left-all : {J : Job} {o s : List ℕ} {p at : ℕ} → Ready J o p s at → Left J o p s at J o p at
+left-all r = record { ready = r; whole = λ D. D }
+
+module _ {K : Job} {o₀ : List ℕ} {p₀ : ℕ} {s : List ℕ} {at₀ : ℕ} {o : List ℕ} {p at : ℕ} where
+  pub left-as : {J A : Job} → Plan J A s at → Left K o₀ p₀ s at₀ J o p at → Left K o₀ p₀ s at₀ A o p at
+  left-as P L = record { ready = ready-as P (L .ready); whole = λ D. L .whole (done-as P D) }
+
+  pub left-none : {J : Job} → Plan J (skipped 0) s at → Left K o₀ p₀ s at₀ J o p at → Done K o₀ p₀ s at₀ o at p
+  left-none P L = L .whole (done-as P (skipped-done 0 (omega arith)))
+
+  pub left-second : {A B : Job} {o′ : List ℕ} {i j : ℕ} → Left K o₀ p₀ s at₀ (A next B) o p at → Done A o p s at o′ i j → Left K o₀ p₀ s at₀ B o′ j i
+  left-second L D = record { ready = next-second (L .ready) D; whole = λ E. L .whole (next-done D E) }
+
+  pub left-before : {ws : List ℕ} {J : Job} {o′ : List ℕ} {i : ℕ} → Left K o₀ p₀ s at₀ (before ws J) o p at → Put ws o p o′ i
+      → Left K o₀ p₀ s at₀ J o′ i at
+  left-before L f = record { ready = before-ready (L .ready) f refl; whole = λ D. L .whole (before-done f D) }

@@ -24,8 +24,8 @@ use Rattle.atoms.proofs.Ways.{parted}
 use Rattle.atoms.proofs.Tests.{Loose, told, atom-var, atom-fun}
 use Rattle.runs.specs.Runs.{Room, Put}
 use Rattle.sizes.proofs.Lengths.{of-calling, of-making}
-use Rattle.writing.specs.Jobs.{passed, kept, keeps, chained, branches, before, after, _next_, linked, handed, Ready, Done}
-use Rattle.writing.proofs.Jobs.{before-room, before-ready, before-done, after-ready, after-room, after-done, next-first, next-second, next-done, skipped-done, ready-as, done-as}
+use Rattle.writing.specs.Jobs.{Job, passed, kept, keeps, chained, branches, before, after, _next_, linked, handed, Ready, Done}
+use Rattle.writing.proofs.Jobs.{before-room, before-ready, before-done, after-ready, after-room, after-done, next-first, next-second, next-done, skipped-done, ready-as, done-as, Left, left-all, left-as, left-none, left-second, left-before}
 use Rattle.writing.proofs.Plans.{loosened, plan-atom, plan-call, plan-let, plan-build, plan-match, plan-var, plan-function, plan-constructor, plan-no-links, plan-links, plan-no-atoms, plan-atoms, plan-no-arms, plan-arms, plan-arity, plan-loose}
 
 -- numbers that are small enough for what is done with them
@@ -43,6 +43,9 @@ small-head (r-bind r r′) k = omega (arith, first-word k)
 small-head (r-con h l rs) k = omega (arith, first-word k)
 small-head (r-cases l h r rs) k = omega (arith, first-word k)
 
+not-none : {n : ℕ} → 0 < n → n ≡ 0 → ⊥
+not-none z e = omega arith
+
 -- there is room for a handed form, whatever it is handed
 reworded : {s : List ℕ} {at d : ℕ} {o : List ℕ} {p w v : ℕ} → Ready (handed d w) o p s at → Ready (handed d v) o p s at
 reworded {w = w} {v} r =
@@ -57,9 +60,6 @@ module _ {s : List ℕ} {at : ℕ} {o : List ℕ} {p : ℕ} where
   module _ {d : ℕ} where
     pub kept-small : Ready (kept d) o p s at → getD s at 0 < 0xFFFF
     kept-small r = small-head (r .seen .good .0) (r .seen .held)
-
-    pub branches-inside : {n : ℕ} → Ready (branches d n) o p s at → 2 * n ≤ length s - at
-    branches-inside r = arms-inside (record { thing = r .thing; to = r .to; seen = r .seen })
 
     -- what is read
     pub stands-passed : Ready (passed d) o p s at → Stands (term d) s at
@@ -239,61 +239,51 @@ module _ {s : List ℕ} {at : ℕ} {o : List ℕ} {p : ℕ} where
               → Done (handed d w) o p s at o‴ to end
           handed-done f D g = before-done f (after-done D g)
 
-    -- lists and arms
-    module _ {n : ℕ} where
-      pub chain-none : n ≡ 0 → Done (chained d n) o p s at o at p
-      chain-none z = done-as (plan-no-links z) (skipped-done 0 (omega arith))
+    -- lists and arms, of which n things are left
+    module _ {K : Job} {o₀ : List ℕ} {p₀ at₀ n : ℕ} where
+      pub chain-none : Left K o₀ p₀ s at₀ (chained d n) o p at → n ≤ 0 → Done K o₀ p₀ s at₀ o at p
+      chain-none L z = left-none (plan-no-links (omega arith)) L
 
-      pub keeps-none : n ≡ 0 → Done (keeps d n) o p s at o at p
-      keeps-none z = done-as (plan-no-atoms z) (skipped-done 0 (omega arith))
+      pub keeps-none : Left K o₀ p₀ s at₀ (keeps d n) o p at → n ≤ 0 → Done K o₀ p₀ s at₀ o at p
+      keeps-none L z = left-none (plan-no-atoms (omega arith)) L
 
-      pub arms-none : n ≡ 0 → Done (branches d n) o p s at o at p
-      arms-none z = done-as (plan-no-arms z) (skipped-done 0 (omega arith))
+      pub arms-none : Left K o₀ p₀ s at₀ (branches d n) o p at → n ≤ 0 → Done K o₀ p₀ s at₀ o at p
+      arms-none L z = left-none (plan-no-arms (omega arith)) L
 
-      module _ (z : n ≡ 0 → ⊥) where
-        pub chain-ready : Ready (chained d n) o p s at → Ready (linked d) o p s at
-        chain-ready r = next-first (ready-as (plan-links z) r)
+      pub branches-inside : Left K o₀ p₀ s at₀ (branches d n) o p at → 2 * n ≤ length s - at
+      branches-inside L = arms-inside (record { thing = L .ready .thing; to = L .ready .to; seen = L .ready .seen })
 
-        pub keeps-ready : Ready (keeps d n) o p s at → Ready (kept d) o p s at
-        keeps-ready r = next-first (ready-as (plan-atoms z) r)
+      module _ (z : 0 < n) where
+        pub chain-ready : Left K o₀ p₀ s at₀ (chained d n) o p at → Ready (linked d) o p s at
+        chain-ready L = next-first (left-as (plan-links (not-none z)) L .ready)
+
+        pub keeps-ready : Left K o₀ p₀ s at₀ (keeps d n) o p at → Ready (kept d) o p s at
+        keeps-ready L = next-first (left-as (plan-atoms (not-none z)) L .ready)
 
         module _ {o′ : List ℕ} {i j : ℕ} where
-          pub chain-next : Ready (chained d n) o p s at → Done (linked d) o p s at o′ i j → Ready (chained d (n - 1)) o′ j s i
-          chain-next r D = next-second (ready-as (plan-links z) r) D
+          pub chain-next : Left K o₀ p₀ s at₀ (chained d n) o p at → Done (linked d) o p s at o′ i j → Left K o₀ p₀ s at₀ (chained d (n - 1)) o′ j i
+          chain-next L D = left-second (left-as (plan-links (not-none z)) L) D
 
-          pub keeps-next : Ready (keeps d n) o p s at → Done (kept d) o p s at o′ i j → Ready (keeps d (n - 1)) o′ j s i
-          keeps-next r D = next-second (ready-as (plan-atoms z) r) D
+          pub keeps-next : Left K o₀ p₀ s at₀ (keeps d n) o p at → Done (kept d) o p s at o′ i j → Left K o₀ p₀ s at₀ (keeps d (n - 1)) o′ j i
+          keeps-next L D = left-second (left-as (plan-atoms (not-none z)) L) D
 
-          module _ {o″ : List ℕ} {to end : ℕ} where
-            pub chain-done : Done (linked d) o p s at o′ i j → Done (chained d (n - 1)) o′ j s i o″ to end → Done (chained d n) o p s at o″ to end
-            chain-done D E = done-as (plan-links z) (next-done D E)
+        module _ (L : Left K o₀ p₀ s at₀ (branches d n) o p at) where
+          arm-rest : Left K o₀ p₀ s at₀ (before (getD s at 0 ∷ getD s (at + 1) 0 ∷ []) (handed d (head 9 1) next branches d (n - 1))) o p (at + 2)
+          arm-rest = left-second (left-as (plan-arms (not-none z)) L) (skipped-done 2 refl)
 
-            pub keeps-done : Done (kept d) o p s at o′ i j → Done (keeps d (n - 1)) o′ j s i o″ to end → Done (keeps d n) o p s at o″ to end
-            keeps-done D E = done-as (plan-atoms z) (next-done D E)
+          pub arm-inside : at + 1 < length s
+          arm-inside = omega (arith, branches-inside L)
 
-        arm-rest : Ready (branches d n) o p s at
-            → Ready (before (getD s at 0 ∷ getD s (at + 1) 0 ∷ []) (handed d (head 9 1) next branches d (n - 1))) o p s (at + 2)
-        arm-rest r = next-second (ready-as (plan-arms z) r) (skipped-done 2 refl)
+          pub arm-room : Room o p 2
+          arm-room = before-room (arm-rest .ready)
 
-        pub arm-inside : Ready (branches d n) o p s at → at + 1 < length s
-        arm-inside r = omega (arith, branches-inside r, z)
+          module _ {o′ : List ℕ} {j : ℕ} (f : Put (getD s at 0 ∷ getD s (at + 1) 0 ∷ []) o p o′ j) where
+            pub arm-next : {w : ℕ} → Ready (handed d w) o′ j s (at + 2)
+            arm-next = reworded (next-first (left-before arm-rest f .ready))
 
-        pub arm-room : Ready (branches d n) o p s at → Room o p 2
-        arm-room r = before-room (arm-rest r)
-
-        module _ {o′ : List ℕ} {j : ℕ} where
-          pub arm-next : {a b w : ℕ} → Ready (branches d n) o p s at → Put (a ∷ b ∷ []) o p o′ j → Ready (handed d w) o′ j s (at + 2)
-          arm-next r f = reworded (next-first (before-ready (arm-rest r) f refl))
-
-          module _ {o″ : List ℕ} {i l : ℕ} where
-            pub arms-next : {a b : ℕ} → Ready (branches d n) o p s at → Put (a ∷ b ∷ []) o p o′ j → Done (handed d (head 9 1)) o′ j s (at + 2) o″ i l
-                → Ready (branches d (n - 1)) o″ l s i
-            arms-next r f D = next-second (before-ready (arm-rest r) f refl) D
-
-            pub arms-done : {o‴ : List ℕ} {to end : ℕ} → Put (getD s at 0 ∷ getD s (at + 1) 0 ∷ []) o p o′ j
-                → Done (handed d (head 9 1)) o′ j s (at + 2) o″ i l → Done (branches d (n - 1)) o″ l s i o‴ to end
-                → Done (branches d n) o p s at o‴ to end
-            arms-done f D E = done-as (plan-arms z) (next-done (skipped-done 2 refl) (before-done f (next-done D E)))
+            pub arms-next : {o″ : List ℕ} {i l : ℕ} → Done (handed d (head 9 1)) o′ j s (at + 2) o″ i l
+                → Left K o₀ p₀ s at₀ (branches d (n - 1)) o″ l i
+            arms-next D = left-second (left-before arm-rest f) D
 
 pub ruleset ways = (
   parted,
@@ -337,6 +327,7 @@ pub ruleset ways = (
   handed-next,
   handed-left,
   handed-done,
+  left-all,
   chain-none,
   keeps-none,
   arms-none,
@@ -346,10 +337,7 @@ pub ruleset ways = (
   arm-room,
   chain-next,
   keeps-next,
-  chain-done,
-  keeps-done,
   arm-next,
   arms-next,
-  arms-done,
   needs,
 )

@@ -169,11 +169,13 @@ fn put_carrieds(
     requires { ⌜ Ready (keeps depth count) (now out) pos (now s) at ⌝ }
     ensures { λ r. ⌜ Done (keeps depth count) (now (out .entry)) pos (now (s .entry)) at (now (out .exit)) (r .at) (r .pos) ⌝ }
 {
-    if count == 0 {
-        return Places { at: at, pos: pos };
+    let mut next = Places { at: at, pos: pos };
+    let mut atoms_left = count;
+    while 0 < atoms_left {
+        next = put_carried(out, next.pos, s, next.at, depth);
+        atoms_left -= 1;
     }
-    let a = put_carried(out, pos, s, at, depth);
-    put_carrieds(out, a.pos, s, a.at, depth, count - 1)
+    next
 }
 
 // The chain over the `count` terms at `at`, without its end.
@@ -188,11 +190,13 @@ fn put_chain(
     requires { ⌜ Ready (chained depth count) (now out) pos (now s) at ⌝ }
     ensures { λ r. ⌜ Done (chained depth count) (now (out .entry)) pos (now (s .entry)) at (now (out .exit)) (r .at) (r .pos) ⌝ }
 {
-    if count == 0 {
-        return Places { at: at, pos: pos };
+    let mut next = Places { at: at, pos: pos };
+    let mut terms_left = count;
+    while 0 < terms_left {
+        next = put_link(out, next.pos, s, next.at, depth);
+        terms_left -= 1;
     }
-    let a = put_link(out, pos, s, at, depth);
-    put_chain(out, a.pos, s, a.at, depth, count - 1)
+    next
 }
 
 // The `count` arms at `at`, each with its two words: its body is handed k_1.
@@ -200,12 +204,14 @@ fn put_arms(out: &mut [u16], pos: usize, s: &[u16], at: usize, depth: usize, cou
     requires { ⌜ Ready (branches depth count) (now out) pos (now s) at ⌝ }
     ensures { λ r. ⌜ Done (branches depth count) (now (out .entry)) pos (now (s .entry)) at (now (out .exit)) (r .at) (r .pos) ⌝ }
 {
-    if count == 0 {
-        return Places { at: at, pos: pos };
+    let mut next = Places { at: at, pos: pos };
+    let mut arms_left = count;
+    while 0 < arms_left {
+        let p = runs::put_copied(out, next.pos, s, next.at);
+        next = put_handed(out, p, s, next.at + HEAD_AND_COUNT, depth, Continuation(1));
+        arms_left -= 1;
     }
-    let p = runs::put_copied(out, pos, s, at);
-    let b = put_handed(out, p, s, at + HEAD_AND_COUNT, depth, Continuation(1));
-    put_arms(out, b.pos, s, b.at, depth, count - 1)
+    next
 }
 
 // The image of the rule s, at the front of the output; every later word of the output is unchanged. Returns the image's word count.

@@ -1,6 +1,6 @@
 -- The functions that read terms, lists and arms through each other meet their contracts: each way out is a law of `Ways`, and what is left are
--- bounds. The loop over a match's arms keeps: the arms still to be read, so many words longer, are the whole.
--- The measure: a level of depth outweighs a head's parts, and these any count.
+-- bounds. The loops over a list's terms and over a match's arms keep: what was read, joined to what is still to be read, is the whole.
+-- The measure: a level of depth outweighs a head's parts, and these a list.
 -- Assumes nothing.
 use Prim.Native.Nat.{ℕ, _+_, _-_, _*_, _<_, _≤_}
 use borrow.Fn.Kinds.{In}
@@ -23,20 +23,21 @@ use Rattle.arities.proofs.second_at.Reads as second-at-reads
 use Rattle.language.proofs.look.Reads as look-reads
 use Rattle.reading.proofs.built.Reads as built-reads
 use Rattle.reading.proofs.grown.Reads as grown-reads
-use Rattle.reading.proofs.joined.Reads as joined-reads
 use Rattle.reading.proofs.+arms_at+opened_at+term_at+terms_at.{statement}
 use Rattle.reading.proofs.+arms_at+opened_at+term_at+terms_at.Tie.{close}
 use native.Mathlib.Omega.{arith}
 use mathlib.Core.Path.{_≡_, refl}
-use mathlib.Core.Bool.{false}
+use mathlib.Core.Bool.{true}
 use mathlib.Core.List.{[]}
+use mathlib.Core.Logic.{inl, inr, ⊎-elim}
 use lib.ListN.{length, take, length-take}
 use Rattle.language.specs.Kinds.{mostArms, mostByte}
-use Rattle.language.specs.Read.{armsOf, term}
+use Rattle.language.specs.Read.{many, armsOf, term}
 use Rattle.arities.specs.Marks.{unmarked}
-use Rattle.reading.specs.Steps.{aWord, small, armsStep, grownOf}
+use Rattle.reading.specs.Steps.{aWord, small, termsStep, armsStep}
 use Rattle.reading.proofs.Sums.{sums}
-use Rattle.reading.proofs.Ways.{ways, arms-ways}
+use Rattle.reading.proofs.Steps.{joinedOf}
+use Rattle.reading.proofs.Ways.{l-met, ways, terms-ways, arms-ways}
 
 abbrev level : ℕ
 level = 2 * aWord
@@ -51,7 +52,7 @@ abbrev μ-term-at : Measures 1 term-at-kinds.ps ℕ
 μ-term-at κs a = level * a .1 .1 .0
 
 abbrev μ-terms-at : Measures 1 terms-at-kinds.ps ℕ
-μ-terms-at κs a = level * a .1 .1 .0 + a .1 .1 .1 .1 .0
+μ-terms-at κs a = level * a .1 .1 .0 + mostByte
 
 abbrev arms-at-at : ℕ → In 1 arms-at-kinds.ps
 arms-at-at t = and 1 arms-at-kinds.ps (is 1 arms-at-kinds.ps μ-arms-at t) arms-at.Pre
@@ -79,12 +80,20 @@ terms-at-below t = and 1 terms-at-kinds.ps (falls 1 terms-at-kinds.ps _<_ μ-ter
 
 abbrev arms-at-Inv-loop : arms-at-lts.InvT-loop
 arms-at-Inv-loop s at left bound count marks₀ next₀ words₀ i₀ marks next words i =
-    (grownOf false words 0 (armsStep (armsOf s (term s left) (unmarked (take i marks)) bound (count - i) next))
+    (joinedOf true words (armsStep (armsOf s (term s left) (unmarked (take i marks)) bound (count - i) next))
     ≡ armsStep (armsOf s (term s left) [] bound count at))
     × (i ≤ count) × (words ≤ 2 * small * i) × (length marks ≡ mostArms)
 
 abbrev arms-at-μ-loop : arms-at-lts.MeasureT-loop
 arms-at-μ-loop s at left bound count marks₀ next₀ words₀ i₀ marks next words i = count - i
+
+abbrev terms-at-Inv-loop : terms-at-lts.InvT-loop
+terms-at-Inv-loop s at left bound count next₀ all₀ words₀ i₀ next all words i =
+    (joinedOf all words (termsStep (many (term s left bound) (count - i) next)) ≡ termsStep (many (term s left bound) count at))
+    × (i ≤ count) × (words ≤ 2 * small * i)
+
+abbrev terms-at-μ-loop : terms-at-lts.MeasureT-loop
+terms-at-μ-loop s at left bound count next₀ all₀ words₀ i₀ next all words i = count - i
 
 abbrev arms-at-calls : ℕ → arms-at-lts.Claims
 arms-at-calls t = (arity-at-reads.Asked, arity-at-reads.Learnt, mark-reads.Asked, mark-reads.Learnt, term-at-below t, term-at.Post)
@@ -109,7 +118,7 @@ abbrev term-at-calls : ℕ → term-at-lts.Claims
 term-at-calls t = (look-reads.Asked, look-reads.Learnt, opened-at-below t, opened-at.Post)
 
 abbrev terms-at-calls : ℕ → terms-at-lts.Claims
-terms-at-calls t = (term-at-below t, term-at.Post, terms-at-below t, terms-at.Post, joined-reads.Asked, joined-reads.Learnt)
+terms-at-calls t = (term-at-below t, term-at.Post)
 
 pub +arms-at+opened-at+term-at+terms-at-spec : {M : Type 1} → statement M
 +arms-at+opened-at+term-at+terms-at-spec =
@@ -136,6 +145,9 @@ pub +arms-at+opened-at+term-at+terms-at-spec : {M : Type 1} → statement M
     (λ c. search ways) (λ c. search ways) (λ c. search ways)
     (λ c κs. (omega arith, (omega arith, omega arith, omega arith, omega arith, search sums, search sums))) (λ c. search ways)
     (λ c. search ways))
-    (λ t. terms-at-lts.spec (terms-at-calls t) (terms-at-at t) terms-at.Post
-    (λ c. search ways) (λ c κs. search ways) (λ c. search ways) (λ c. search ways) (λ c. search ways) (λ c κs. search ways)
-    (λ c κs. search ways) (λ c. search ways) (λ c. search ways))
+    (λ t. terms-at-lts.spec (terms-at-calls t) (terms-at-at t) terms-at.Post terms-at-Inv-loop terms-at-μ-loop
+    (λ c. (search terms-ways, omega arith, omega arith)) (λ c κs. search terms-ways) (λ c. search terms-ways) (λ c. search terms-ways)
+    (λ c. search terms-ways) (λ c. search terms-ways) (λ c. search terms-ways) (λ c. search terms-ways) (λ c. search terms-ways)
+    (λ c. let met = l-met (⊎-elim (λ w. inl (w .0 .taken, w .1)) (λ w. inr (w .0 .left, w .1)) (c .if1 .came)) in
+    (search (terms-ways, met), omega arith, search terms-ways))
+    (λ c. search terms-ways))

@@ -1,5 +1,5 @@
--- The writers of forms, of lists and of arms meet their contracts. The levels left fall from a term to its parts, and the number of terms or arms
--- with each that is written; among the writers of one term each calls those below it alone.
+-- The writers of forms, of lists and of arms meet their contracts. The levels left fall from a term to its parts; among the writers of one level each
+-- calls those below it alone. The loops over lists and arms keep: what is still to be written is all that is left of the whole.
 -- Assumes nothing.
 use Prim.Native.Nat.{ℕ, _<_}
 use borrow.Fn.Kinds.{In}
@@ -61,49 +61,53 @@ use Rattle.writing.proofs.+put_arms+put_atom+put_build+put_call+put_car
 use Rattle.writing.proofs.+put_arms+put_atom+put_build+put_call+put_carried+put_carrieds+put_chain+put_constructor+put_function+put_handed+put_let+put_link+put_match+put_passing.Tie.{close}
 use Prim.Native.Nat.{_+_, _*_}
 use native.Mathlib.Omega.{arith}
+use mathlib.Core.Path.{_≡_}
+use lib.ListN.{length}
+use Rattle.writing.specs.Jobs.{keeps, chained, branches}
+use Rattle.writing.proofs.Jobs.{Left}
 use Rattle.writing.proofs.Ways.{ways, kept-small, branches-inside}
 
 abbrev μ-put-arms : Measures 2 put-arms-kinds.ps ℕ
-μ-put-arms κs a = 512 * a .1 .1 .1 .1 .0 + a .1 .1 .1 .1 .1 .0 + 5
+μ-put-arms κs a = 6 * a .1 .1 .1 .1 .0 + 5
 
 abbrev μ-put-atom : Measures 2 put-atom-kinds.ps ℕ
-μ-put-atom κs a = 512 * a .1 .1 .1 .1 .0 + 2
+μ-put-atom κs a = 6 * a .1 .1 .1 .1 .0 + 2
 
 abbrev μ-put-build : Measures 2 put-build-kinds.ps ℕ
-μ-put-build κs a = 512 * a .1 .1 .1 .1 .0
+μ-put-build κs a = 6 * a .1 .1 .1 .1 .0
 
 abbrev μ-put-call : Measures 2 put-call-kinds.ps ℕ
-μ-put-call κs a = 512 * a .1 .1 .1 .1 .0
+μ-put-call κs a = 6 * a .1 .1 .1 .1 .0
 
 abbrev μ-put-carried : Measures 2 put-carried-kinds.ps ℕ
-μ-put-carried κs a = 512 * a .1 .1 .1 .1 .0 + 1
+μ-put-carried κs a = 6 * a .1 .1 .1 .1 .0 + 1
 
 abbrev μ-put-carrieds : Measures 2 put-carrieds-kinds.ps ℕ
-μ-put-carrieds κs a = 512 * a .1 .1 .1 .1 .0 + a .1 .1 .1 .1 .1 .0 + 5
+μ-put-carrieds κs a = 6 * a .1 .1 .1 .1 .0 + 5
 
 abbrev μ-put-chain : Measures 2 put-chain-kinds.ps ℕ
-μ-put-chain κs a = 512 * a .1 .1 .1 .1 .0 + a .1 .1 .1 .1 .1 .0 + 5
+μ-put-chain κs a = 6 * a .1 .1 .1 .1 .0 + 5
 
 abbrev μ-put-constructor : Measures 2 put-constructor-kinds.ps ℕ
-μ-put-constructor κs a = 512 * a .1 .1 .1 .1 .0
+μ-put-constructor κs a = 6 * a .1 .1 .1 .1 .0
 
 abbrev μ-put-function : Measures 2 put-function-kinds.ps ℕ
-μ-put-function κs a = 512 * a .1 .1 .1 .1 .0
+μ-put-function κs a = 6 * a .1 .1 .1 .1 .0
 
 abbrev μ-put-handed : Measures 2 put-handed-kinds.ps ℕ
-μ-put-handed κs a = 512 * a .1 .1 .1 .1 .0 + 4
+μ-put-handed κs a = 6 * a .1 .1 .1 .1 .0 + 4
 
 abbrev μ-put-let : Measures 2 put-let-kinds.ps ℕ
-μ-put-let κs a = 512 * a .1 .1 .1 .1 .0
+μ-put-let κs a = 6 * a .1 .1 .1 .1 .0
 
 abbrev μ-put-link : Measures 2 put-link-kinds.ps ℕ
-μ-put-link κs a = 512 * a .1 .1 .1 .1 .0 + 4
+μ-put-link κs a = 6 * a .1 .1 .1 .1 .0 + 4
 
 abbrev μ-put-match : Measures 2 put-match-kinds.ps ℕ
-μ-put-match κs a = 512 * a .1 .1 .1 .1 .0
+μ-put-match κs a = 6 * a .1 .1 .1 .1 .0
 
 abbrev μ-put-passing : Measures 2 put-passing-kinds.ps ℕ
-μ-put-passing κs a = 512 * a .1 .1 .1 .1 .0 + 3
+μ-put-passing κs a = 6 * a .1 .1 .1 .1 .0 + 3
 
 abbrev put-arms-at : ℕ → In 2 put-arms-kinds.ps
 put-arms-at t = and 2 put-arms-kinds.ps (is 2 put-arms-kinds.ps μ-put-arms t) put-arms.Pre
@@ -189,8 +193,29 @@ put-passing-at t = and 2 put-passing-kinds.ps (is 2 put-passing-kinds.ps μ-put-
 abbrev put-passing-below : ℕ → In 2 put-passing-kinds.ps
 put-passing-below t = and 2 put-passing-kinds.ps (falls 2 put-passing-kinds.ps _<_ μ-put-passing t) put-passing.Pre
 
+abbrev put-arms-Inv-loop : put-arms-lts.InvT-loop
+put-arms-Inv-loop out₀ pos s at depth count next₀ arms-left₀ out next arms-left =
+    Left (branches depth count) out₀ pos s at (branches depth arms-left) out (next .pos) (next .at) × (length out ≡ length out₀)
+
+abbrev put-arms-μ-loop : put-arms-lts.MeasureT-loop
+put-arms-μ-loop out₀ pos s at depth count next₀ arms-left₀ out next arms-left = arms-left
+
+abbrev put-carrieds-Inv-loop : put-carrieds-lts.InvT-loop
+put-carrieds-Inv-loop out₀ pos s at depth count next₀ atoms-left₀ out next atoms-left =
+    Left (keeps depth count) out₀ pos s at (keeps depth atoms-left) out (next .pos) (next .at) × (length out ≡ length out₀)
+
+abbrev put-carrieds-μ-loop : put-carrieds-lts.MeasureT-loop
+put-carrieds-μ-loop out₀ pos s at depth count next₀ atoms-left₀ out next atoms-left = atoms-left
+
+abbrev put-chain-Inv-loop : put-chain-lts.InvT-loop
+put-chain-Inv-loop out₀ pos s at depth count next₀ terms-left₀ out next terms-left =
+    Left (chained depth count) out₀ pos s at (chained depth terms-left) out (next .pos) (next .at) × (length out ≡ length out₀)
+
+abbrev put-chain-μ-loop : put-chain-lts.MeasureT-loop
+put-chain-μ-loop out₀ pos s at depth count next₀ terms-left₀ out next terms-left = terms-left
+
 abbrev put-arms-calls : ℕ → put-arms-lts.Claims
-put-arms-calls t = (put-copied-reads.Asked, put-copied-reads.Learnt, put-handed-below t, put-handed.Post, put-arms-below t, put-arms.Post)
+put-arms-calls t = (put-copied-reads.Asked, put-copied-reads.Learnt, put-handed-below t, put-handed.Post)
 
 abbrev put-atom-calls : ℕ → put-atom-lts.Claims
 put-atom-calls t = (put-added-reads.Asked, put-added-reads.Learnt, put-carried-below t, put-carried.Post)
@@ -205,10 +230,10 @@ abbrev put-carried-calls : ℕ → put-carried-lts.Claims
 put-carried-calls t = (parts-at-reads.Asked, parts-at-reads.Learnt, put-source-reads.Asked, put-source-reads.Learnt, put-function-below t, put-function.Post, put-constructor-below t, put-constructor.Post)
 
 abbrev put-carrieds-calls : ℕ → put-carrieds-lts.Claims
-put-carrieds-calls t = (put-carried-below t, put-carried.Post, put-carrieds-below t, put-carrieds.Post)
+put-carrieds-calls t = (put-carried-below t, put-carried.Post)
 
 abbrev put-chain-calls : ℕ → put-chain-lts.Claims
-put-chain-calls t = (put-link-below t, put-link.Post, put-chain-below t, put-chain.Post)
+put-chain-calls t = (put-link-below t, put-link.Post)
 
 abbrev put-constructor-calls : ℕ → put-constructor-lts.Claims
 put-constructor-calls t = (count-at-reads.Asked, count-at-reads.Learnt, put-copied-reads.Asked, put-copied-reads.Learnt, put-carrieds-below t, put-carrieds.Post)
@@ -234,9 +259,9 @@ put-passing-calls t = (parts-at-reads.Asked, parts-at-reads.Learnt, put-atom-bel
 pub +put-arms+put-atom+put-build+put-call+put-carried+put-carrieds+put-chain+put-constructor+put-function+put-handed+put-let+put-link+put-match+put-passing-spec : {M : Type 1} → statement M
 +put-arms+put-atom+put-build+put-call+put-carried+put-carrieds+put-chain+put-constructor+put-function+put-handed+put-let+put-link+put-match+put-passing-spec =
     close μ-put-arms μ-put-atom μ-put-build μ-put-call μ-put-carried μ-put-carrieds μ-put-chain μ-put-constructor μ-put-function μ-put-handed μ-put-let μ-put-link μ-put-match μ-put-passing
-    (λ t. put-arms-lts.spec (put-arms-calls t) (put-arms-at t) put-arms.Post
+    (λ t. put-arms-lts.spec (put-arms-calls t) (put-arms-at t) put-arms.Post put-arms-Inv-loop put-arms-μ-loop
     (λ c. search ways) (λ c κs. search ways) (λ c. omega (arith, branches-inside)) (λ c κs. search ways) (λ c. search ways)
-    (λ c κs. search ways) (λ c. search ways) (λ c. search ways))
+    (λ c. search ways) (λ c. search ways) (λ c. search ways) (λ c. search ways))
     (λ t. put-atom-lts.spec (put-atom-calls t) (put-atom-at t) put-atom.Post
     (λ c κs. search ways) (λ c κs. search ways) (λ c. search ways) (λ c. search ways))
     (λ t. put-build-lts.spec (put-build-calls t) (put-build-at t) put-build.Post
@@ -251,10 +276,12 @@ pub +put-arms+put-atom+put-build+put-call+put-carried+put-carrieds+put-chain+put
     (λ c. search ways) (λ c. search ways) (λ c. search ways) (λ c. search ways) (λ c. search ways) (λ c. search ways)
     (λ c. search ways) (λ c. search ways) (λ c. search ways) (λ c. search ways) (λ c. search ways) (λ c. search ways)
     (λ c. search ways))
-    (λ t. put-carrieds-lts.spec (put-carrieds-calls t) (put-carrieds-at t) put-carrieds.Post
-    (λ c. search ways) (λ c κs. search ways) (λ c. search ways) (λ c κs. search ways) (λ c. search ways) (λ c. search ways))
-    (λ t. put-chain-lts.spec (put-chain-calls t) (put-chain-at t) put-chain.Post
-    (λ c. search ways) (λ c κs. search ways) (λ c. search ways) (λ c κs. search ways) (λ c. search ways) (λ c. search ways))
+    (λ t. put-carrieds-lts.spec (put-carrieds-calls t) (put-carrieds-at t) put-carrieds.Post put-carrieds-Inv-loop put-carrieds-μ-loop
+    (λ c. search ways) (λ c κs. search ways) (λ c. search ways) (λ c. search ways) (λ c. search ways) (λ c. search ways)
+    (λ c. search ways))
+    (λ t. put-chain-lts.spec (put-chain-calls t) (put-chain-at t) put-chain.Post put-chain-Inv-loop put-chain-μ-loop
+    (λ c. search ways) (λ c κs. search ways) (λ c. search ways) (λ c. search ways) (λ c. search ways) (λ c. search ways)
+    (λ c. search ways))
     (λ t. put-constructor-lts.spec (put-constructor-calls t) (put-constructor-at t) put-constructor.Post
     (λ c κs. search ways) (λ c κs. search ways) (λ c. search ways) (λ c. search ways) (λ c κs. search ways)
     (λ c. search ways) (λ c. search ways))
