@@ -190,18 +190,20 @@ static void refused_rules(const struct refused_case *cases, size_t count)
         try_refused(cases[i].name, cases[i].rule, reply_of(cases[i].refusal));
 }
 
-/* Cases A to N, and of the other images B's, which the paper prints. */
+/* The worked rules: cases A to N with B's image, which the paper prints, and those that the later requests ask for. */
 static void worked_cases(void)
 {
     for (size_t i = 0; i < ACCEPTED_CASES; i++) {
         const char *name = accepted_cases[i].name;
         struct word_list image = peer_image(accepted_cases[i].rule);
 
-        expect(image.count == accepted_cases[i].image_count, "the paper's count", name);
+        expect(image.count == accepted_cases[i].image_count, "the image's count", name);
         try_accepted(name, accepted_cases[i].rule, image);
         try_file(name, PEATNICKEL_RULES, accepted_cases[i].rule, NULL);
         try_file(name, PEATNICKEL_IMAGES, image, NULL);
     }
+    for (size_t i = 0; i < IMAGE_CASES; i++)
+        try_accepted(image_cases[i].name, image_cases[i].rule, image_cases[i].image);
     try_accepted("case B, the paper's image", accepted_cases[1].rule, case_b_image);
     try_file("case B, the paper's file", PEATNICKEL_RULES, accepted_cases[1].rule, case_b_file.bytes);
     refused_rules(refused_cases, REFUSED_CASES);
@@ -267,7 +269,7 @@ static void replies(void)
 }
 
 /*
- * Cases A to G with one word wrong, cut, and with a word more. A word that is wrong wherever it stands is the word tested;
+ * The accepted rules with one word wrong, cut, and with a word more. A word that is wrong wherever it stands is the word tested;
  * whether as a head or as a second word, and so the number, the second translator says.
  */
 static void spoiled_cases(void)

@@ -4,7 +4,7 @@
 #include "../peer/rule.h"
 #include "../peer/term.h"
 
-enum { LEAF = 2, EIGHT = 8, LET_LEAST = 5, TOWER_MOST = 32, LEVELS = RULE_DEPTH_MOST - 2 };
+enum { LEAF = 2, PARTS = 8, LET_LEAST = 5, TOWER_MOST = 32, LEVELS = RULE_DEPTH_MOST - 2 };
 
 /* So many words in parts, as even as can be. */
 static void put_even(struct word_sink *sink, void (*put)(struct word_sink *, size_t), size_t words, size_t parts)
@@ -20,12 +20,12 @@ static void put_even(struct word_sink *sink, void (*put)(struct word_sink *, siz
 /* Calls of seven arguments; a part that is too small for another is a value. */
 static void put_calls(struct word_sink *sink, size_t words)
 {
-    if (words < 1 + EIGHT * LEAF) {
+    if (words < 1 + PARTS * LEAF) {
         put_filler(sink, words);
         return;
     }
-    put_kind(sink, KIND_CALL, EIGHT - 1);
-    put_even(sink, put_calls, words - 1, EIGHT);
+    put_kind(sink, KIND_CALL, PARTS - 1);
+    put_even(sink, put_calls, words - 1, PARTS);
 }
 
 static void put_lets(struct word_sink *sink, size_t words)
@@ -58,11 +58,11 @@ static void put_match(struct word_sink *sink, void (*put)(struct word_sink *, si
 /* Matches of seven arms. */
 static void put_matches(struct word_sink *sink, size_t words)
 {
-    if (words < 1 + 2 * (EIGHT - 1) + EIGHT * LEAF) {
+    if (words < 1 + 2 * (PARTS - 1) + PARTS * LEAF) {
         put_filler(sink, words);
         return;
     }
-    put_match(sink, put_matches, words, EIGHT - 1);
+    put_match(sink, put_matches, words, PARTS - 1);
 }
 
 /* Matches of as many arms as there are words for, some 31, side by side in lets. */
@@ -147,26 +147,26 @@ static void put_deep_lets(struct word_sink *sink, size_t most)
     put_variables(sink, 1);
 }
 
-/* Calls of eight arguments, the next in the last one. */
+/* Calls of as many arguments as a call may have, the next in the last one. */
 static void put_deep_calls(struct word_sink *sink, size_t most)
 {
     (void)most;
     put_opening(sink);
     for (size_t i = 0; i < LEVELS; i++) {
-        put_kind(sink, KIND_CALL, EIGHT);
-        put_variables(sink, EIGHT);
+        put_kind(sink, KIND_CALL, ARGUMENTS_MOST);
+        put_variables(sink, ARGUMENTS_MOST);
     }
     put_variables(sink, 1);
 }
 
-/* Constructors of eight arguments, atoms all. */
+/* Constructors of as many, atoms all. */
 static void put_deep_atoms(struct word_sink *sink, size_t most)
 {
     (void)most;
     put_opening(sink);
     for (size_t i = 0; i < LEVELS; i++) {
-        put_two(sink, KIND_CONSTRUCTOR, 0, EIGHT);
-        put_variables(sink, EIGHT - 1);
+        put_two(sink, KIND_CONSTRUCTOR, 0, ARGUMENTS_MOST);
+        put_variables(sink, ARGUMENTS_MOST - 1);
     }
     put_variables(sink, 1);
 }
@@ -177,8 +177,8 @@ static void put_deep_constructors(struct word_sink *sink, size_t most)
     (void)most;
     put_opening(sink);
     for (size_t i = 0; i < LEVELS - 1; i++) {
-        put_two(sink, KIND_CONSTRUCTOR, 0, EIGHT);
-        put_variables(sink, EIGHT - 1);
+        put_two(sink, KIND_CONSTRUCTOR, 0, ARGUMENTS_MOST);
+        put_variables(sink, ARGUMENTS_MOST - 1);
     }
     put_kind(sink, KIND_CALL, 1);
     put_variables(sink, 2);

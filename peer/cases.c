@@ -15,6 +15,20 @@
 /* A match up to its second arm's head, after which it may be dead. */
 #define UP_TO_SECOND 0x0702, SHORT, SHORT_ARM, 0x0805
 
+/* Constructors without arguments, and variables down from the first of 15. */
+#define FOURTEEN                                                            \
+    0x0600, 0x0000, 0x0601, 0x0000, 0x0602, 0x0000, 0x0603, 0x0000, 0x0604, \
+        0x0000, 0x0605, 0x0000, 0x0606, 0x0000, 0x0607, 0x0000, 0x0608,     \
+        0x0000, 0x0609, 0x0000, 0x060A, 0x0000, 0x060B, 0x0000, 0x060C,     \
+        0x0000, 0x060D, 0x0000
+#define FIFTEEN FOURTEEN, 0x060E, 0x0000
+#define DOWN_TO_SECOND_LAST                                                 \
+    0x010E, 0x010D, 0x010C, 0x010B, 0x010A, 0x0109, 0x0108, 0x0107, 0x0106, \
+        0x0105, 0x0104, 0x0103, 0x0102, 0x0101
+
+/* Of a chain in an image: a variable. */
+#define CHAINED(variable) 0x0201, 0x0401, 0x0201, 0x0401, 0x0900, variable
+
 const struct accepted_case accepted_cases[ACCEPTED_CASES] = {
     { "case A", WORD_LIST(0x0600, 0x0000), 8, WORD_LIST(0x0600, 0x0000), 2 },
     { "case B", WORD_LIST(0x0401, 0x0201, 0x0100, 0x0600, 0x0000), 27,
@@ -62,6 +76,17 @@ const struct accepted_case accepted_cases[ACCEPTED_CASES] = {
     { "match in an arm's body in the subject, all with one tag and arities",
       WORD_LIST(0x0702, NEST_TO_LONG, BOTH_ARMS), 76,
       WORD_LIST(0x0602, 0x0000), 11 },
+    { "call and function of fifteen arguments",
+      WORD_LIST(0x040F, 0x020F, 0x010E, FIFTEEN), 139,
+      WORD_LIST(0x0600, 0x0000), 36 },
+    { "recursive function of fifteen, which calls itself once",
+      WORD_LIST(0x040F, 0x030F, 0x0702, 0x0100, 0x080E, 0x0000, 0x040F, 0x010F,
+                0x0100, DOWN_TO_SECOND_LAST, 0x080D, 0x0000, 0x010E, FIFTEEN),
+      271, WORD_LIST(0x060E, 0x0000), 76 },
+    { "constructor of fifteen, the last unfinished, and its arm",
+      WORD_LIST(0x0701, 0x0607, 0x000F, FOURTEEN, 0x0500, 0x060E, 0x0000,
+                0x0100, 0x0807, 0x000F, 0x0100),
+      152, WORD_LIST(0x060E, 0x0000), 38 },
 };
 
 const struct refused_case refused_cases[REFUSED_CASES] = {
@@ -72,6 +97,15 @@ const struct refused_case refused_cases[REFUSED_CASES] = {
     { "case K", WORD_LIST(0x0200, 0x0100), { REFUSED_RANGE, 0 } },
     { "case L", WORD_LIST(0x0600, 0x0000, 0x0600), { REFUSED_WORDS_LEFT, 2 } },
     { "case M", WORD_LIST(0x0A00), { REFUSED_KIND, 0 } },
+    { "function of sixteen arguments", WORD_LIST(0x0210, 0x0100),
+      { REFUSED_RANGE, 0 } },
+    { "recursive function of sixteen", WORD_LIST(0x0310, 0x0100),
+      { REFUSED_RANGE, 0 } },
+    { "call of sixteen", WORD_LIST(0x0410), { REFUSED_RANGE, 0 } },
+    { "constructor of sixteen", WORD_LIST(0x0600, 0x0010),
+      { REFUSED_RANGE, 1 } },
+    { "arm of sixteen", WORD_LIST(0x0701, 0x0600, 0x0000, 0x0800, 0x0010),
+      { REFUSED_RANGE, 4 } },
 };
 
 const struct refused_case place_cases[PLACE_CASES] = {
@@ -103,22 +137,22 @@ const struct refused_case place_cases[PLACE_CASES] = {
                 0x0000),
       { REFUSED_KIND, 7 } },
     { "range of a function in a call's last argument",
-      WORD_LIST(0x0402, 0x0202, 0x0101, 0x0600, 0x0000, 0x0209, 0x0100),
+      WORD_LIST(0x0402, 0x0202, 0x0101, 0x0600, 0x0000, 0x02FF, 0x0100),
       { REFUSED_RANGE, 5 } },
     { "range of a match's subject",
       WORD_LIST(0x0701, 0x0700, 0x0800, 0x0000, 0x0600, 0x0000),
       { REFUSED_RANGE, 1 } },
-    { "constructor's second word", WORD_LIST(0x0600, 0x0009, 0x0600, 0x0000),
+    { "constructor's second word", WORD_LIST(0x0600, 0x00FF, 0x0600, 0x0000),
       { REFUSED_RANGE, 1 } },
     { "second word of a constructor in a call's last argument",
-      WORD_LIST(0x0401, 0x0201, 0x0100, 0x0600, 0x0009),
+      WORD_LIST(0x0401, 0x0201, 0x0100, 0x0600, 0x00FF),
       { REFUSED_RANGE, 4 } },
     { "first arm's second word",
-      WORD_LIST(0x0701, 0x0600, 0x0000, 0x0800, 0x0009, 0x0600, 0x0000),
+      WORD_LIST(0x0701, 0x0600, 0x0000, 0x0800, 0x00FF, 0x0600, 0x0000),
       { REFUSED_RANGE, 4 } },
     { "last arm's second word",
       WORD_LIST(0x0702, 0x0600, 0x0000, 0x0800, 0x0000, 0x0600, 0x0000, 0x0801,
-                0x0009, 0x0600, 0x0000),
+                0x00FF, 0x0600, 0x0000),
       { REFUSED_RANGE, 8 } },
     { "variable bound by the let, in its bound term",
       WORD_LIST(0x0500, 0x0100, 0x0600, 0x0000), { REFUSED_UNBOUND, 1 } },
@@ -175,7 +209,7 @@ const struct refused_case dead_cases[DEAD_CASES] = {
       { REFUSED_DEAD_ARM, 17 } },
     { "dead arm's missing second word", WORD_LIST(UP_TO_SECOND),
       { REFUSED_WORD_MISSING, 8 } },
-    { "dead arm's second word", WORD_LIST(UP_TO_SECOND, 0x0009, SHORT),
+    { "dead arm's second word", WORD_LIST(UP_TO_SECOND, 0x00FF, SHORT),
       { REFUSED_RANGE, 8 } },
     { "second word with an earlier one's low byte",
       WORD_LIST(UP_TO_SECOND, 0x0100, SHORT), { REFUSED_RANGE, 8 } },
@@ -197,13 +231,31 @@ const struct refused_case dead_cases[DEAD_CASES] = {
       WORD_LIST(0x0702, SHORT, 0x0805, 0x0000, 0x0A00, LATER_ARM),
       { REFUSED_KIND, 5 } },
     { "range of the body before a dead arm",
-      WORD_LIST(0x0702, SHORT, 0x0805, 0x0000, 0x0601, 0x0009, LATER_ARM),
+      WORD_LIST(0x0702, SHORT, 0x0805, 0x0000, 0x0601, 0x00FF, LATER_ARM),
       { REFUSED_RANGE, 6 } },
     { "variable in the body before a dead arm",
       WORD_LIST(0x0702, SHORT, 0x0805, 0x0000, 0x0100, LATER_ARM),
       { REFUSED_UNBOUND, 5 } },
     { "variable in the subject before a dead arm",
       WORD_LIST(0x0702, 0x0100, SHORT_ARM, LATER_ARM), { REFUSED_UNBOUND, 1 } },
+};
+
+const struct image_case image_cases[IMAGE_CASES] = {
+    { "function of fifteen arguments", WORD_LIST(0x020F, 0x010E),
+      WORD_LIST(0x0401, 0x0201, 0x0401, 0x0900, 0x0210, 0x0401, 0x0201, 0x0401,
+                0x0900, 0x010E, 0x0900, 0x0201, 0x0900) },
+    { "recursive function of fifteen, which calls itself with all",
+      WORD_LIST(0x030F, 0x040F, 0x010F, DOWN_TO_SECOND_LAST, 0x0100),
+      WORD_LIST(0x0401, 0x0201, 0x0401, 0x0900, 0x0310, 0x0401,
+                CHAINED(0x010F), CHAINED(0x010E), CHAINED(0x010D),
+                CHAINED(0x010C), CHAINED(0x010B), CHAINED(0x010A),
+                CHAINED(0x0109), CHAINED(0x0108), CHAINED(0x0107),
+                CHAINED(0x0106), CHAINED(0x0105), CHAINED(0x0104),
+                CHAINED(0x0103), CHAINED(0x0102), CHAINED(0x0101),
+                CHAINED(0x0100), 0x0201, 0x0410, 0x090F, 0x0910, 0x090E,
+                0x090D, 0x090C, 0x090B, 0x090A, 0x0909, 0x0908, 0x0907,
+                0x0906, 0x0905, 0x0904, 0x0903, 0x0902, 0x0901, 0x0900,
+                0x0900, 0x0201, 0x0900) },
 };
 
 const struct word_list case_b_image = WORD_LIST(

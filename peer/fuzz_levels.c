@@ -5,7 +5,7 @@
 #include "gen_free.h"
 #include "gen_record.h"
 
-enum { FREE_COUNT_MOST = 3, LARGE_COUNT_ODDS = 8, RECURSIVE_ODDS = 3 };
+enum { LARGE_COUNT_ODDS = 8, RECURSIVE_ODDS = 3 };
 
 /* One level: a head, and which of its parts is the inner level. */
 struct level {
@@ -17,13 +17,6 @@ struct level {
     struct place place;
     struct arms arms; /* a match's, so far */
 };
-
-static size_t free_count(struct maker *maker, size_t most)
-{
-    bool large = one_in(maker, LARGE_COUNT_ODDS);
-
-    return from_to(maker, 1, large ? most : FREE_COUNT_MOST);
-}
 
 static enum kind function_kind(struct maker *maker)
 {
@@ -48,10 +41,9 @@ static enum kind free_kind(struct maker *maker)
     return from_to(maker, KIND_FUNCTION, KIND_MATCH);
 }
 
-static size_t argument_count(struct maker *maker, bool fitting)
+static size_t argument_count(struct maker *maker)
 {
-    return fitting ? from_to(maker, 1, FITTING_ARGUMENTS_MOST)
-                   : free_count(maker, ARGUMENTS_MOST);
+    return some_count(maker, LARGE_COUNT_ODDS, ARGUMENTS_MOST);
 }
 
 /* A fitting constructor's tag is its number of arguments. */
@@ -60,7 +52,7 @@ static void choose_parts(struct maker *maker, bool fitting,
 {
     switch (level->kind) {
     case KIND_CALL:
-        level->low = argument_count(maker, fitting);
+        level->low = argument_count(maker);
         level->parts = level->low + 1;
         return;
     case KIND_LET:
@@ -68,17 +60,16 @@ static void choose_parts(struct maker *maker, bool fitting,
         return;
     case KIND_CONSTRUCTOR:
         level->parts = fitting ? from_to(maker, 1, FITTING_TAGS - 1)
-                               : argument_count(maker, fitting);
+                               : argument_count(maker);
         level->low = fitting ? level->parts : below(maker, LOW_BYTE_MOST + 1);
         return;
     case KIND_MATCH:
         level->low = fitting ? (size_t)FITTING_TAGS
-                             : free_count(maker, ARMS_MOST);
+                             : some_count(maker, LARGE_COUNT_ODDS, ARMS_MOST);
         level->parts = level->low + 1;
         return;
     default:
-        level->low = fitting ? level->place.type
-                             : argument_count(maker, fitting);
+        level->low = fitting ? level->place.type : argument_count(maker);
         level->parts = 1;
         return;
     }
@@ -112,7 +103,7 @@ static size_t type_of_part(const struct level *level, size_t part)
 static void enter_arm(struct maker *maker, bool fitting, struct arms *arms)
 {
     size_t tag = fitting ? arms->count : below(maker, FITTING_TAGS);
-    size_t arity = fitting ? arms->count : below(maker, SECOND_WORD_MOST + 1);
+    size_t arity = fitting ? arms->count : below(maker, ARGUMENTS_MOST + 1);
 
     put_arm(maker, arms, (struct arm){ tag, arity });
 }

@@ -20,9 +20,10 @@ enum { WIDE_LEVELS_MOST = 4, WIDE_BESIDE_MOST = 5 };
 
 /* From just below to just above 256 variables, as many as have names. */
 enum {
-    TOWER_LEVELS_LEAST = 26,
-    TOWER_LEVELS_MOST = 34,
+    NAMES = LOW_BYTE_MOST + 1,
     TOWER_ARGUMENTS_LEAST = ARGUMENTS_MOST - 1,
+    TOWER_LEVELS_LEAST = NAMES / ARGUMENTS_MOST - 1,
+    TOWER_LEVELS_MOST = NAMES / TOWER_ARGUMENTS_LEAST + 1,
     EDGE_TARGET_MOST = 60
 };
 
@@ -143,7 +144,7 @@ static void put_nested(struct maker *maker, const struct levels *small,
 {
     bool many = one_in(maker, MANY_ARGUMENTS_ODDS);
     size_t arguments =
-        below(maker, (many ? SECOND_WORD_MOST : ATOM_ARGUMENTS_MOST) + 1);
+        below(maker, (many ? ARGUMENTS_MOST : ATOM_ARGUMENTS_MOST) + 1);
 
     put_two(maker->sink, KIND_CONSTRUCTOR, arguments, arguments);
     for (; arguments > 0; arguments--) {

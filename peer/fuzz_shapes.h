@@ -12,7 +12,7 @@
 /* Some end within depth 64, some beyond it. */
 void put_deep(struct maker *maker, struct record *record);
 
-/* Heads with about as many arguments or arms as a head may have. */
+/* Heads with many arguments or arms, often about as many as may be. */
 void put_wide(struct maker *maker, struct record *record);
 
 /* Variables near the number bound; often about as many as have names. */

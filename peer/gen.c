@@ -3,6 +3,7 @@
 #include <stdlib.h>
 
 #include "cases.h"
+#include "gen_arguments.h"
 #include "gen_dead.h"
 #include "gen_faults.h"
 #include "gen_limits.h"
@@ -38,6 +39,7 @@ int generate_corpus(FILE *out)
     write_places(out);
     write_dead_arms(out);
     write_limits(out);
+    write_arguments(out);
     write_runs(out);
     write_random_rules(out);
     return ferror(out) ? EXIT_FAILURE : EXIT_SUCCESS;

@@ -11,6 +11,9 @@
 
 enum { TAGS_OF_MANY = 5 };
 
+_Static_assert(ARMS_MOST / TAGS_OF_MANY <= ARGUMENTS_MOST,
+               "all arms of a match, and one more, have one of these tags");
+
 static void put_leaves(struct word_sink *sink, size_t times)
 {
     for (; times > 0; times--)
@@ -95,10 +98,13 @@ static void write_dead_among_many(FILE *out)
     write_many_arms(out, ARMS_MOST, last, last);
 }
 
+_Static_assert(ARGUMENTS_MOST + 2 <= ARMS_MOST,
+               "a match has an arm for each arity, and one more");
+
 /* One tag with every arity, and once more with that one if there is such. */
 static void write_arities(FILE *out, size_t again)
 {
-    const size_t arities = SECOND_WORD_MOST + 1;
+    const size_t arities = ARGUMENTS_MOST + 1;
     bool is_dead = again < arities;
     struct record record;
 
@@ -118,13 +124,19 @@ static void write_arities(FILE *out, size_t again)
 
 /* Two that differ, though a sum, a number or a byte made of each may not. */
 static const struct arm alike[][2] = {
-    { { 0, 0 }, { 0, 8 } },     { { 0, 8 }, { 1, 0 } },
-    { { 0, 1 }, { 1, 0 } },     { { 8, 1 }, { 1, 8 } },
-    { { 0, 0 }, { 64, 0 } },    { { 63, 8 }, { 127, 8 } },
-    { { 0, 3 }, { 32, 3 } },    { { 0, 5 }, { 128, 5 } },
-    { { 0, 1 }, { 16, 0 } },    { { 5, 2 }, { 2, 5 } },
-    { { 254, 8 }, { 255, 8 } }, { { 255, 0 }, { 0, 0 } },
-    { { 255, 7 }, { 255, 8 } }, { { 127, 0 }, { 255, 0 } },
+    { { 0, 0 }, { 0, ARGUMENTS_MOST } },
+    { { 0, 1 }, { 1, 0 } },
+    { { ARGUMENTS_MOST, 1 }, { 1, ARGUMENTS_MOST } },
+    { { 0, 0 }, { 64, 0 } },
+    { { 63, ARGUMENTS_MOST }, { 127, ARGUMENTS_MOST } },
+    { { 0, 3 }, { 32, 3 } },
+    { { 0, 5 }, { 128, 5 } },
+    { { 0, 1 }, { 16, 0 } },
+    { { 5, 2 }, { 2, 5 } },
+    { { 254, ARGUMENTS_MOST }, { 255, ARGUMENTS_MOST } },
+    { { 255, 0 }, { 0, 0 } },
+    { { 255, ARGUMENTS_MOST - 1 }, { 255, ARGUMENTS_MOST } },
+    { { 127, 0 }, { 255, 0 } },
 };
 
 static void write_alike(FILE *out)
@@ -134,6 +146,10 @@ static void write_alike(FILE *out)
         write_two_arms(out, alike[i][1], alike[i][0]);
         write_two_arms(out, alike[i][0], alike[i][0]);
         write_two_arms(out, alike[i][1], alike[i][1]);
+    }
+    for (size_t arity = 1; arity <= ARGUMENTS_MOST; arity++) {
+        write_two_arms(out, (struct arm){ 0, arity }, (struct arm){ 1, 0 });
+        write_two_arms(out, (struct arm){ 1, 0 }, (struct arm){ 0, arity });
     }
 }
 
@@ -197,7 +213,7 @@ static const struct word_list bodies[] = {
     WORD_LIST(0x0A00),
     WORD_LIST(ARM, LEAF),
     WORD_LIST(0x0200, 0x0100),
-    WORD_LIST(0x0601, 0x0009),
+    WORD_LIST(0x0601, 0x00FF),
     WORD_LIST(0x0201, LEAF), /* too deep at the last depth only */
     WORD_LIST(0x01FF),
     WORD_LIST(0x0702, LEAF, ARM, LEAF, ARM, LEAF),
@@ -241,7 +257,7 @@ static void write_bodies(FILE *out, bool deep)
 /* A match's second arm from its head on; 3, 4 and 5 come before 18. */
 static const struct word_list second_arms[] = {
     WORD_LIST(0x0800),
-    WORD_LIST(0x0800, 0x0009, LEAF),
+    WORD_LIST(0x0800, 0x00FF, LEAF),
     WORD_LIST(0x0800, 0x8000, LEAF),
     WORD_LIST(0x0800, 0xFFFF, LEAF),
     WORD_LIST(0x0700, 0x0000, LEAF),
@@ -260,7 +276,7 @@ static void write_second_arms(FILE *out)
 
     for (size_t i = 0; i < sizeof second_arms / sizeof second_arms[0]; i++)
         write_two_lists(out, false, before, second_arms[i]);
-    for (size_t arity = 0; arity <= SECOND_WORD_MOST; arity++)
+    for (size_t arity = 0; arity <= ARGUMENTS_MOST; arity++)
         write_two_arms(out, (struct arm){ 0, arity },
                        (struct arm){ 0, byte_more + arity });
 }
@@ -293,7 +309,7 @@ void write_dead_arms(FILE *out)
 {
     write_worked_dead(out);
     write_dead_among_many(out);
-    for (size_t again = 0; again <= SECOND_WORD_MOST + 1; again++)
+    for (size_t again = 0; again <= ARGUMENTS_MOST + 1; again++)
         write_arities(out, again);
     write_alike(out);
     write_nests(out);

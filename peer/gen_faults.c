@@ -6,7 +6,7 @@
 
 enum {
     EARLY_PLACE = 12,
-    MIDDLE_PLACE = 2048,
+    MIDDLE_PLACE = 1024,
     LAST_PLACE = RULE_WORDS_MOST - 1,
     TRAILING_WORDS = 5,
     TRAILING_WORD = 0xFFFF,
@@ -14,7 +14,7 @@ enum {
     BAD_RANGE_WORD = 0x0200,
     UNBOUND_WORD = 0x0100,
     UNBOUND_IN_LET_WORD = 0x0101,
-    BAD_SECOND_WORD = SECOND_WORD_MOST + 1
+    BAD_SECOND_WORD = ARGUMENTS_MOST + 1
 };
 
 /* A fault before the last place is followed by words that are faults too. */
@@ -143,7 +143,6 @@ static void write_missing_words(FILE *out)
 {
     write_cut_filler(out, 1);
     write_cut_filler(out, MIDDLE_PLACE);
-    write_cut_filler(out, RULE_WORDS_MOST);
     for (size_t i = 0; i < ACCEPTED_CASES; i++)
         for (size_t words = 1; words < accepted_cases[i].rule.count; words++)
             write_cut_rule(out, accepted_cases[i].rule, words);
@@ -172,13 +171,49 @@ static void write_bad_kinds(FILE *out)
         write_arm_fault(out, EARLY_PLACE, at_arm[i]);
 }
 
+static void write_bad_head(FILE *out, enum kind kind, size_t low)
+{
+    uint16_t word = head_word(kind, (uint8_t)low);
+
+    write_head_fault(out, 0, word);
+    write_head_fault(out, EARLY_PLACE, word);
+}
+
+/* Those kinds of which a low byte can be outside the range. */
+static void write_bad_heads(FILE *out)
+{
+    static const struct range {
+        enum kind kind;
+        size_t least;
+        size_t most;
+    } ranges[] = {
+        { KIND_FUNCTION, 1, ARGUMENTS_MOST },
+        { KIND_RECURSIVE, 1, ARGUMENTS_MOST },
+        { KIND_CALL, 1, ARGUMENTS_MOST },
+        { KIND_LET, 0, 0 },
+        { KIND_MATCH, 1, ARMS_MOST },
+    };
+
+    for (size_t i = 0; i < sizeof ranges / sizeof ranges[0]; i++) {
+        const struct range *range = &ranges[i];
+
+        if (range->least > 0) {
+            write_bad_head(out, range->kind, range->least - 1);
+            write_bad_head(out, range->kind, 2 * range->most + 1);
+        }
+        write_bad_head(out, range->kind, range->most + 1);
+        write_bad_head(out, range->kind, LOW_BYTE_MOST);
+    }
+}
+
+/* One past the range and farther; two that have a low byte within it. */
 static void write_bad_ranges(FILE *out)
 {
-    static const uint16_t heads[] = { 0x0200, 0x0209, 0x02FF, 0x0300, 0x0309,
-                                      0x03FF, 0x0400, 0x0409, 0x04FF, 0x0501,
-                                      0x05FF, 0x0700, 0x0721, 0x07FF };
-    static const uint16_t seconds[] = { 0x0009, 0x0100, 0x0108, 0x8000,
-                                        0xFFFF };
+    static const uint16_t seconds[] = {
+        ARGUMENTS_MOST + 1, 2 * ARGUMENTS_MOST + 1, LOW_BYTE_MOST,
+        LOW_BYTE_MOST + 1,  LOW_BYTE_MOST + 1 + ARGUMENTS_MOST,
+        0x8000,             0xFFFF
+    };
     const size_t first_arm_second = 4;
 
     write_head_fault(out, 0, BAD_RANGE_WORD);
@@ -189,10 +224,7 @@ static void write_bad_ranges(FILE *out)
     write_second_fault(out, LAST_PLACE, BAD_SECOND_WORD);
     write_arm_second_fault(out, first_arm_second, BAD_SECOND_WORD);
     write_arm_second_fault(out, LAST_PLACE, BAD_SECOND_WORD);
-    for (size_t i = 0; i < sizeof heads / sizeof heads[0]; i++) {
-        write_head_fault(out, 0, heads[i]);
-        write_head_fault(out, EARLY_PLACE, heads[i]);
-    }
+    write_bad_heads(out);
     for (size_t i = 0; i < sizeof seconds / sizeof seconds[0]; i++) {
         write_second_fault(out, EARLY_PLACE, seconds[i]);
         write_arm_second_fault(out, EARLY_PLACE, seconds[i]);
@@ -221,11 +253,8 @@ static void write_depths(FILE *out)
 
 void write_faults(FILE *out)
 {
-    const size_t amid_too_many = (RULE_WORDS_MOST + RECORD_WORDS_MOST) / 2;
-
     write_record(out, (struct word_list){ NULL, 0 });
     write_too_many(out, RULE_WORDS_MOST + 1, true);
-    write_too_many(out, amid_too_many, false);
     write_too_many(out, RECORD_WORDS_MOST, false);
     write_missing_words(out);
     write_bad_kinds(out);

@@ -6,7 +6,14 @@
 enum { OTHER_ARMS_MOST = 2 };
 
 /* One in so many is the rarer choice. */
-enum { FITTING_RECURSIVE_ODDS = 4, DATA_ODDS = 2, NEW_TAG_ODDS = 2 };
+enum {
+    FITTING_RECURSIVE_ODDS = 4,
+    DATA_ODDS = 2,
+    LARGE_TYPE_ODDS = 6,
+    CONSTANT_ODDS = 3,
+    FORM_ODDS = 3,
+    NEW_TAG_ODDS = 2
+};
 
 enum fitting_choice {
     CHOOSE_LET,
@@ -32,33 +39,49 @@ static size_t variable_of_type(struct maker *maker, size_t type)
     return names;
 }
 
+static enum kind function_kind(struct maker *maker)
+{
+    return one_in(maker, FITTING_RECURSIVE_ODDS) ? KIND_RECURSIVE
+                                                 : KIND_FUNCTION;
+}
+
+/* Most often it gives one of its arguments back. */
+static void put_leaf_function(struct maker *maker, size_t type)
+{
+    put_kind(maker->sink, function_kind(maker), type);
+    if (one_in(maker, CONSTANT_ODDS))
+        put_leaf(maker->sink);
+    else
+        put_kind(maker->sink, KIND_VARIABLE, below(maker, type));
+}
+
 static void put_fitting_leaf(struct maker *maker, size_t type)
 {
     size_t index = variable_of_type(maker, type);
 
-    if (index < nameable(maker)) {
+    if (index < nameable(maker))
         put_kind(maker->sink, KIND_VARIABLE, index);
-        return;
-    }
-    if (type != DATA)
-        put_kind(maker->sink, KIND_FUNCTION, type);
-    put_leaf(maker->sink);
+    else if (type == DATA)
+        put_leaf(maker->sink);
+    else
+        put_leaf_function(maker, type);
 }
 
 size_t some_type(struct maker *maker)
 {
-    return one_in(maker, DATA_ODDS) ? (size_t)DATA
-                                    : from_to(maker, 1, FITTING_ARGUMENTS_MOST);
+    return one_in(maker, DATA_ODDS)
+               ? (size_t)DATA
+               : some_count(maker, LARGE_TYPE_ODDS, ARGUMENTS_MOST);
 }
 
 static void put_fitting_function(struct maker *maker, size_t type,
                                  struct spot spot)
 {
     size_t outside = maker->bound;
-    bool recursive = one_in(maker, FITTING_RECURSIVE_ODDS);
+    enum kind kind = function_kind(maker);
 
-    put_kind(maker->sink, recursive ? KIND_RECURSIVE : KIND_FUNCTION, type);
-    bind_variables(maker, type, recursive ? 1 : 0);
+    put_kind(maker->sink, kind, type);
+    bind_variables(maker, type, kind == KIND_RECURSIVE);
     bind_variables(maker, DATA, type);
     put_fitting(maker, DATA, part_of(spot, 1));
     maker->bound = outside;
@@ -66,7 +89,7 @@ static void put_fitting_function(struct maker *maker, size_t type,
 
 static void put_fitting_call(struct maker *maker, struct spot spot)
 {
-    size_t arguments = from_to(maker, 1, FITTING_ARGUMENTS_MOST);
+    size_t arguments = count_for_spot(maker, ARGUMENTS_MOST, spot);
 
     put_kind(maker->sink, KIND_CALL, arguments);
     put_fitting(maker, arguments, part_of(spot, arguments + 1));
@@ -94,14 +117,20 @@ static void put_fitting_let(struct maker *maker, size_t type, struct spot spot)
     maker->bound--;
 }
 
+static size_t other_arity(struct maker *maker, size_t arity)
+{
+    size_t other = below(maker, ARGUMENTS_MOST);
+
+    return other < arity ? other : other + 1;
+}
+
 /* An arm that is never taken: of a new tag, or of another arity. */
 static struct arm other_arm(struct maker *maker, size_t new_tag)
 {
     bool is_new = one_in(maker, NEW_TAG_ODDS);
     size_t tag = is_new ? new_tag : below(maker, FITTING_TAGS);
-    size_t arity = below(maker, SECOND_WORD_MOST);
 
-    return (struct arm){ tag, arity < tag ? arity : arity + 1 };
+    return (struct arm){ tag, other_arity(maker, tag) };
 }
 
 /* An arm for every tag; perhaps arms before and behind these. */
@@ -127,6 +156,39 @@ static void put_fitting_match(struct maker *maker, size_t type,
     }
 }
 
+/* Of any arity; no match but its own meets it. */
+static struct arm some_form(struct maker *maker, struct spot spot)
+{
+    size_t tag = from_to(maker, FITTING_TAGS, LOW_BYTE_MOST);
+
+    return (struct arm){ tag, count_for_spot(maker, ARGUMENTS_MOST, spot) };
+}
+
+/* A constructor and its arm; perhaps arms for other forms of its tag. */
+static void put_form_match(struct maker *maker, size_t type, struct spot spot)
+{
+    struct arm form = some_form(maker, spot);
+    size_t others = below(maker, OTHER_ARMS_MOST + 1);
+    size_t place = below(maker, others + 1);
+    size_t outside = maker->bound;
+    struct spot part = part_of(spot, others + 2);
+    struct spot argument = { part.target / form.arity, part.depth + 1 };
+    struct arms arms = { .count = 0 };
+
+    put_kind(maker->sink, KIND_MATCH, others + 1);
+    put_two(maker->sink, KIND_CONSTRUCTOR, form.tag, form.arity);
+    for (size_t i = 0; i < form.arity; i++)
+        put_fitting(maker, DATA, argument);
+    for (size_t i = 0; i <= others; i++) {
+        size_t arity =
+            i == place ? form.arity : other_arity(maker, form.arity);
+
+        put_arm(maker, &arms, (struct arm){ form.tag, arity });
+        put_fitting(maker, type, part);
+        maker->bound = outside;
+    }
+}
+
 void put_fitting(struct maker *maker, size_t type, struct spot spot)
 {
     if (is_leaf_spot(maker, spot)) {
@@ -138,7 +200,10 @@ void put_fitting(struct maker *maker, size_t type, struct spot spot)
         put_fitting_let(maker, type, spot);
         return;
     case CHOOSE_MATCH:
-        put_fitting_match(maker, type, spot);
+        if (one_in(maker, FORM_ODDS))
+            put_form_match(maker, type, spot);
+        else
+            put_fitting_match(maker, type, spot);
         return;
     case CHOOSE_CONSTRUCTOR:
         if (type == DATA) {

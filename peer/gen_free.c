@@ -6,7 +6,6 @@
 /* One in so many is the rarer choice. */
 enum {
     LEAF_CONSTRUCTOR_ODDS = 3,
-    LARGE_COUNT_ODDS = 3,
     FREE_RECURSIVE_ODDS = 2
 };
 
@@ -38,20 +37,10 @@ static void put_edge_leaf(struct maker *maker)
     put_kind(maker->sink, KIND_VARIABLE, index);
 }
 
-/* Most counts are small; the spot sets how large they can be. */
-static size_t free_count(struct maker *maker, size_t most, struct spot spot)
-{
-    size_t affordable = spot.target / TARGET_LEAST;
-    size_t count = one_in(maker, LARGE_COUNT_ODDS) ? most
-                                                  : FITTING_ARGUMENTS_MOST;
-
-    return from_to(maker, 1, count < affordable ? count : affordable);
-}
-
 static void put_free_function(struct maker *maker, struct spot spot)
 {
     size_t outside = maker->bound;
-    size_t arguments = free_count(maker, ARGUMENTS_MOST, spot);
+    size_t arguments = count_for_spot(maker, ARGUMENTS_MOST, spot);
     bool recursive = one_in(maker, FREE_RECURSIVE_ODDS);
 
     put_kind(maker->sink, recursive ? KIND_RECURSIVE : KIND_FUNCTION,
@@ -63,7 +52,7 @@ static void put_free_function(struct maker *maker, struct spot spot)
 
 static void put_free_call(struct maker *maker, struct spot spot)
 {
-    size_t parts = free_count(maker, ARGUMENTS_MOST, spot) + 1;
+    size_t parts = count_for_spot(maker, ARGUMENTS_MOST, spot) + 1;
 
     put_kind(maker->sink, KIND_CALL, parts - 1);
     for (size_t i = 0; i < parts; i++)
@@ -81,7 +70,7 @@ static void put_free_let(struct maker *maker, struct spot spot)
 
 static void put_free_constructor(struct maker *maker, struct spot spot)
 {
-    size_t arguments = free_count(maker, ARGUMENTS_MOST, spot);
+    size_t arguments = count_for_spot(maker, ARGUMENTS_MOST, spot);
 
     put_two(maker->sink, KIND_CONSTRUCTOR, below(maker, LOW_BYTE_MOST + 1),
             arguments);
@@ -92,13 +81,13 @@ static void put_free_constructor(struct maker *maker, struct spot spot)
 static void put_free_match(struct maker *maker, struct spot spot)
 {
     size_t outside = maker->bound;
-    size_t count = free_count(maker, ARMS_MOST, spot);
+    size_t count = count_for_spot(maker, ARMS_MOST, spot);
     struct arms arms = { .count = 0 };
 
     put_kind(maker->sink, KIND_MATCH, count);
     put_free(maker, part_of(spot, count + 1));
     for (size_t i = 0; i < count; i++) {
-        size_t arity = below(maker, SECOND_WORD_MOST + 1);
+        size_t arity = below(maker, ARGUMENTS_MOST + 1);
         size_t tag = below(maker, FITTING_TAGS);
 
         put_arm(maker, &arms, (struct arm){ tag, arity });

@@ -9,9 +9,11 @@ struct nest {
     struct word_list after;
 };
 
+enum { WIDEST_RECURSIVE = KIND_RECURSIVE << LOW_BYTE_BITS | ARGUMENTS_MOST };
+
 static const struct nest nests[] = {
     { WORD_LIST(0x0201), { NULL, 0 } },
-    { WORD_LIST(0x0308), { NULL, 0 } },
+    { WORD_LIST(WIDEST_RECURSIVE), { NULL, 0 } },
     { WORD_LIST(0x0401), WORD_LIST(0x0600, 0x0000) },
     { WORD_LIST(0x0402, 0x0600, 0x0000), WORD_LIST(0x0600, 0x0000) },
     { WORD_LIST(0x0401, 0x0600, 0x0000), { NULL, 0 } },
@@ -23,6 +25,7 @@ static const struct nest nests[] = {
       { NULL, 0 } },
     { WORD_LIST(0x0701), WORD_LIST(0x0800, 0x0000, 0x0600, 0x0000) },
     { WORD_LIST(0x0701, 0x0600, 0x0000, 0x0800, 0x0000), { NULL, 0 } },
+    { WORD_LIST(0x0701, 0x0600, 0x0000, 0x0800, ARGUMENTS_MOST), { NULL, 0 } },
     { WORD_LIST(0x0702, 0x0600, 0x0000, 0x0801, 0x0003, 0x0102, 0x0800,
                 0x0000),
       { NULL, 0 } },
@@ -50,6 +53,49 @@ static void write_nests(FILE *out)
     }
 }
 
+static void put_variables(struct word_sink *sink, size_t count)
+{
+    for (; count > 0; count--)
+        put_kind(sink, KIND_VARIABLE, 0);
+}
+
+/*
+ * Calls or constructors with as many arguments as there may be, each the first
+ * part of the one before, or its last. The deepest parts, a call's, stand at
+ * the given depth, so that no constructor is an atom.
+ */
+static void write_wide_nest(FILE *out, enum kind kind, bool last, size_t depth)
+{
+    const struct word_list call = WORD_LIST(0x0401, 0x0100, 0x0100);
+    const size_t levels_of_others = 3; /* a function, the call, its parts */
+    size_t levels = depth - levels_of_others;
+    size_t beside = kind == KIND_CALL ? ARGUMENTS_MOST : ARGUMENTS_MOST - 1;
+    struct record record;
+
+    start_record(&record);
+    put_kind(&record.sink, KIND_FUNCTION, 1);
+    for (size_t i = 0; i < levels; i++) {
+        put_kind(&record.sink, kind, ARGUMENTS_MOST);
+        if (kind == KIND_CONSTRUCTOR)
+            put_word(&record.sink, ARGUMENTS_MOST);
+        put_variables(&record.sink, last ? beside : 0);
+    }
+    put_words(&record.sink, call);
+    put_variables(&record.sink, last ? 0 : levels * beside);
+    end_record(&record, out);
+}
+
+static void write_wide_nests(FILE *out)
+{
+    static const enum kind kinds[] = { KIND_CALL, KIND_CONSTRUCTOR };
+
+    for (size_t i = 0; i < sizeof kinds / sizeof kinds[0]; i++) {
+        write_wide_nest(out, kinds[i], false, RULE_DEPTH_MOST);
+        write_wide_nest(out, kinds[i], true, RULE_DEPTH_MOST);
+        write_wide_nest(out, kinds[i], true, RULE_DEPTH_MOST + 1);
+    }
+}
+
 /* A match of the last arm's tag, each arm with an arity of its own. */
 static void write_arms(FILE *out, size_t arms)
 {
@@ -59,58 +105,12 @@ static void write_arms(FILE *out, size_t arms)
     put_kind(&record.sink, KIND_MATCH, arms);
     put_two(&record.sink, KIND_CONSTRUCTOR, arms - 1, 0);
     for (size_t i = 0; i < arms; i++) {
-        size_t arity = (arms - 1 - i) % (SECOND_WORD_MOST + 1);
+        size_t arity = (arms - 1 - i) % (ARGUMENTS_MOST + 1);
 
         put_two(&record.sink, KIND_ARM, i, arity);
         put_two(&record.sink, KIND_CONSTRUCTOR, i, 0);
     }
     end_record(&record, out);
-}
-
-/* A call that gives the argument of that index back. */
-static void write_call(FILE *out, enum kind function, size_t arguments,
-                       size_t index)
-{
-    struct record record;
-
-    start_record(&record);
-    put_kind(&record.sink, KIND_CALL, arguments);
-    put_kind(&record.sink, function, arguments);
-    put_kind(&record.sink, KIND_VARIABLE, index);
-    for (size_t i = 0; i < arguments; i++)
-        put_two(&record.sink, KIND_CONSTRUCTOR, i, 0);
-    end_record(&record, out);
-}
-
-/* Atoms, or with one argument unfinished at the given place. */
-static void write_constructor(FILE *out, size_t arguments, size_t unfinished)
-{
-    const struct word_list call =
-        WORD_LIST(0x0401, 0x0201, 0x0100, 0x0609, 0x0000);
-    struct record record;
-
-    start_record(&record);
-    put_two(&record.sink, KIND_CONSTRUCTOR, LOW_BYTE_MOST, arguments);
-    for (size_t i = 0; i < arguments; i++) {
-        if (i == unfinished)
-            put_words(&record.sink, call);
-        else
-            put_two(&record.sink, KIND_CONSTRUCTOR, i, 0);
-    }
-    end_record(&record, out);
-}
-
-static void write_arguments(FILE *out)
-{
-    for (size_t count = 1; count <= ARGUMENTS_MOST + 1; count++) {
-        for (size_t index = 0; index < count; index++) {
-            write_call(out, KIND_FUNCTION, count, index);
-            write_call(out, KIND_RECURSIVE, count, index);
-        }
-        write_call(out, KIND_RECURSIVE, count, count);
-        for (size_t unfinished = 0; unfinished <= count; unfinished++)
-            write_constructor(out, count, unfinished);
-    }
 }
 
 static void write_edge(FILE *out, struct word_list binder, size_t index)
@@ -138,14 +138,14 @@ static void write_edges_of_one_binder(FILE *out)
     const struct word_list bound_term = WORD_LIST(0x0500);
     const struct word_list subject = WORD_LIST(0x0201, 0x0701);
 
-    for (size_t count = 1; count <= ARGUMENTS_MOST; count++) {
+    for (size_t count = 1; count <= ARGUMENTS_MOST + 1; count++) {
         uint16_t function = head_word(KIND_FUNCTION, (uint8_t)count);
         uint16_t recursive = head_word(KIND_RECURSIVE, (uint8_t)count);
 
         write_edges(out, (struct word_list){ &function, 1 }, count);
         write_edges(out, (struct word_list){ &recursive, 1 }, count + 1);
     }
-    for (uint16_t arity = 0; arity <= SECOND_WORD_MOST; arity++) {
+    for (uint16_t arity = 0; arity <= ARGUMENTS_MOST + 1; arity++) {
         const uint16_t words[] = { 0x0701, 0x0600, 0x0000, 0x0800, arity };
         const size_t count = sizeof words / sizeof words[0];
 
@@ -177,18 +177,30 @@ static void write_edges_of_many_binders(FILE *out)
     write_edges(out, after_let, after_let_bound);
 }
 
-/* Index 255 needs 256 variables bound. */
-static void write_highest_index(FILE *out, uint16_t last_function)
+/* Index 255 where so many variables are bound, by the fewest functions. */
+static void write_highest_index(FILE *out, enum kind kind, size_t bound)
 {
-    const struct word_list function = WORD_LIST(0x0208);
-    const size_t others = (LOW_BYTE_MOST + 1) / ARGUMENTS_MOST - 1;
+    size_t bound_by_one = ARGUMENTS_MOST + (kind == KIND_RECURSIVE);
     struct record record;
 
     start_record(&record);
-    put_repeated(&record.sink, function, others);
-    put_word(&record.sink, last_function);
+    for (; bound >= bound_by_one; bound -= bound_by_one)
+        put_kind(&record.sink, kind, ARGUMENTS_MOST);
+    if (bound > 0)
+        put_kind(&record.sink, KIND_FUNCTION, bound);
     put_kind(&record.sink, KIND_VARIABLE, LOW_BYTE_MOST);
     end_record(&record, out);
+}
+
+/* It needs 256. */
+static void write_highest_indices(FILE *out)
+{
+    static const enum kind kinds[] = { KIND_FUNCTION, KIND_RECURSIVE };
+
+    for (size_t i = 0; i < sizeof kinds / sizeof kinds[0]; i++) {
+        write_highest_index(out, kinds[i], LOW_BYTE_MOST + 1);
+        write_highest_index(out, kinds[i], LOW_BYTE_MOST);
+    }
 }
 
 static void write_filler(FILE *out, size_t words)
@@ -200,11 +212,11 @@ static void write_filler(FILE *out, size_t words)
     end_record(&record, out);
 }
 
-/* A tree of that many calls of eight arguments, variables at its leaves. */
+/* A tree of that many calls as wide as can be, variables at its leaves. */
 static void put_call_tree(struct word_sink *sink, size_t calls)
 {
     if (calls == 0) {
-        put_kind(sink, KIND_VARIABLE, 0);
+        put_variables(sink, 1);
         return;
     }
     put_kind(sink, KIND_CALL, ARGUMENTS_MOST);
@@ -249,14 +261,13 @@ void write_limits(FILE *out)
     const size_t short_fillers = 12;
 
     write_nests(out);
+    write_wide_nests(out);
     write_arms(out, 1);
     write_arms(out, ARMS_MOST);
     write_arms(out, ARMS_MOST + 1);
-    write_arguments(out);
     write_edges_of_one_binder(out);
     write_edges_of_many_binders(out);
-    write_highest_index(out, head_word(KIND_FUNCTION, ARGUMENTS_MOST));
-    write_highest_index(out, head_word(KIND_FUNCTION, ARGUMENTS_MOST - 1));
+    write_highest_indices(out);
     for (size_t words = FILLER_WORDS_LEAST; words < short_fillers; words++)
         write_filler(out, words);
     write_filler(out, long_filler);

@@ -64,10 +64,6 @@ static const struct word_list with_value[] = {
               0x0101, 0x0802, 0x0002, 0x0101),
     WORD_LIST(0x0500, 0x0500, TWO, ONE_MORE, 0x0100, 0x0500, 0x0701, 0x0100,
               0x0801, 0x0001, 0x0100, JOIN, 0x0100, 0x0101),
-    WORD_LIST(0x0701, 0x06FF, 0x0008, 0x0600, 0x0000, 0x0601, 0x0000, 0x0602,
-              0x0000, 0x0603, 0x0000, 0x0604, 0x0000, 0x0605, 0x0000, 0x0606,
-              0x0000, 0x0607, 0x0000, 0x08FF, 0x0008, 0x0608, 0x0008, 0x0107,
-              0x0105, 0x0103, 0x0101, 0x0100, 0x0102, 0x0104, 0x0106),
 };
 
 static const struct word_list without_value[] = {
@@ -136,12 +132,12 @@ static void write_forms(FILE *out, size_t arguments)
     struct record record;
 
     start_record(&record);
-    put_kind(&record.sink, KIND_MATCH, SECOND_WORD_MOST + 1);
+    put_kind(&record.sink, KIND_MATCH, ARGUMENTS_MOST + 1);
     put_two(&record.sink, KIND_CONSTRUCTOR, 0, arguments);
     for (size_t i = 0; i < arguments; i++)
         put_two(&record.sink, KIND_CONSTRUCTOR, i, 0);
-    for (size_t i = 0; i <= SECOND_WORD_MOST; i++) {
-        size_t arity = SECOND_WORD_MOST - i;
+    for (size_t i = 0; i <= ARGUMENTS_MOST; i++) {
+        size_t arity = ARGUMENTS_MOST - i;
 
         put_two(&record.sink, KIND_ARM, 0, arity);
         if (arity > 0)
@@ -149,6 +145,26 @@ static void write_forms(FILE *out, size_t arguments)
         else
             put_leaf(&record.sink);
     }
+    end_record(&record, out);
+}
+
+/* All the arguments that a constructor may have, put into another order. */
+static void write_reordered(FILE *out)
+{
+    struct record record;
+
+    start_record(&record);
+    put_kind(&record.sink, KIND_MATCH, 1);
+    put_two(&record.sink, KIND_CONSTRUCTOR, LOW_BYTE_MOST, ARGUMENTS_MOST);
+    for (size_t i = 0; i < ARGUMENTS_MOST; i++)
+        put_two(&record.sink, KIND_CONSTRUCTOR, i, 0);
+    put_two(&record.sink, KIND_ARM, LOW_BYTE_MOST, ARGUMENTS_MOST);
+    put_two(&record.sink, KIND_CONSTRUCTOR, ARGUMENTS_MOST, ARGUMENTS_MOST);
+    for (size_t i = ARGUMENTS_MOST; i-- > 0;)
+        if (i % 2 != 0)
+            put_kind(&record.sink, KIND_VARIABLE, i);
+    for (size_t i = 0; i < ARGUMENTS_MOST; i += 2)
+        put_kind(&record.sink, KIND_VARIABLE, i);
     end_record(&record, out);
 }
 
@@ -168,8 +184,9 @@ void write_runs(FILE *out)
     write_all(out, without_value,
               sizeof without_value / sizeof without_value[0]);
     write_all(out, without_end, sizeof without_end / sizeof without_end[0]);
-    for (size_t arguments = 0; arguments <= SECOND_WORD_MOST; arguments++)
+    for (size_t arguments = 0; arguments <= ARGUMENTS_MOST; arguments++)
         write_forms(out, arguments);
+    write_reordered(out);
     write_doubling(out, lets);
     write_doubling(out, far_too_many_lets);
     write_square(out, number);

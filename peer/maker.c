@@ -4,6 +4,8 @@
 
 enum { FIRST_SHIFT = 13, SECOND_SHIFT = 17, THIRD_SHIFT = 5 };
 
+enum { LARGE_COUNT_FOR_SPOT_ODDS = 3 };
+
 struct maker maker_into(struct word_sink *sink, uint32_t state)
 {
     return (struct maker){ .sink = sink,
@@ -34,6 +36,24 @@ bool one_in(struct maker *maker, size_t count)
     return below(maker, count) == 0;
 }
 
+static size_t lesser(size_t one, size_t other)
+{
+    return one < other ? one : other;
+}
+
+size_t some_count(struct maker *maker, size_t large_odds, size_t most)
+{
+    bool large = one_in(maker, large_odds);
+
+    return from_to(maker, 1, large ? most : lesser(most, SMALL_COUNT_MOST));
+}
+
+size_t count_for_spot(struct maker *maker, size_t most, struct spot spot)
+{
+    return some_count(maker, LARGE_COUNT_FOR_SPOT_ODDS,
+                      lesser(most, spot.target / TARGET_LEAST));
+}
+
 struct spot part_of(struct spot spot, size_t parts)
 {
     return (struct spot){ (spot.target - 1) / parts, spot.depth + 1 };
@@ -55,5 +75,5 @@ size_t nameable(const struct maker *maker)
 {
     const size_t names = LOW_BYTE_MOST + 1;
 
-    return maker->bound < names ? maker->bound : names;
+    return lesser(maker->bound, names);
 }

@@ -20,7 +20,10 @@ enum {
 };
 
 /* Tags 0 to 2 carry as many arguments as they say. */
-enum { FITTING_TAGS = 3, FITTING_ARGUMENTS_MOST = 3 };
+enum { FITTING_TAGS = 3 };
+
+/* Counts that are not large. */
+enum { SMALL_COUNT_MOST = 3 };
 
 /* A variable's type: data, or a function of that many data to data. */
 enum { DATA = 0 };
@@ -51,6 +54,12 @@ size_t below(struct maker *maker, size_t count);
 
 size_t from_to(struct maker *maker, size_t least, size_t most);
 bool one_in(struct maker *maker, size_t count);
+
+/* Most are small, from 1 on; a large one is at most the number given. */
+size_t some_count(struct maker *maker, size_t large_odds, size_t most);
+
+/* The spot, which is no leaf's, sets how large a count can be. */
+size_t count_for_spot(struct maker *maker, size_t most, struct spot spot);
 
 struct spot part_of(struct spot spot, size_t parts);
 bool is_leaf_spot(const struct maker *maker, struct spot spot);

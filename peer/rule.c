@@ -3,10 +3,15 @@
 #include <stdbool.h>
 
 /*
- * A rule's term at depth d has its passing form at most 18 * (d - 1) + 2 deep:
- * a chain over nine terms puts two heads before each of them.
+ * A chain puts two heads before each of its terms, and the next inside them,
+ * so a call's last argument is twice as many levels down as the call has
+ * parts. No other part is as far down, and what an image has above and below
+ * a rule's terms is less than one such level more.
  */
-enum { IMAGE_DEPTH_MOST = 2048 };
+enum {
+    IMAGE_LEVELS_OF_ONE = 2 * (ARGUMENTS_MOST + 1),
+    IMAGE_DEPTH_MOST = IMAGE_LEVELS_OF_ONE * RULE_DEPTH_MOST
+};
 
 struct reader {
     struct arena *arena;

@@ -8,6 +8,7 @@
 #include "demand3.h"
 #include "gen_record.h"
 #include "image.h"
+#include "selftest_arguments.h"
 #include "selftest_dead.h"
 #include "selftest_files.h"
 #include "tally.h"
@@ -157,15 +158,49 @@ static void try_printing(struct tally *tally)
     expect(tally, strcmp(line, "no 5 17\n") == 0, "places", "a refusal's line");
 }
 
-static void try_case_b_image(struct tally *tally)
+static void try_image(struct tally *tally, const struct image_case *it)
 {
     uint16_t output[LENT_WORDS];
-    struct reply reply =
-        write_image(accepted_cases[1].rule, output, LENT_WORDS);
+    struct reply reply = write_image(it->rule, output, LENT_WORDS);
     struct word_list found = { output, reply.count };
 
-    expect(tally, words_are_equal(found, case_b_image), "case B",
-           "whole image");
+    expect(tally, words_are_equal(found, it->image), it->name, "whole image");
+}
+
+static void try_images(struct tally *tally)
+{
+    const struct image_case case_b = { "case B", accepted_cases[1].rule,
+                                       case_b_image };
+
+    try_image(tally, &case_b);
+    for (size_t i = 0; i < IMAGE_CASES; i++)
+        try_image(tally, &image_cases[i]);
+}
+
+/* Each call the last argument of another, with as many as it may have. */
+static void put_deepest_in_image(struct word_sink *sink)
+{
+    for (size_t depth = 1; depth < RULE_DEPTH_MOST; depth++) {
+        put_kind(sink, KIND_CALL, ARGUMENTS_MOST);
+        for (size_t i = 0; i < ARGUMENTS_MOST; i++)
+            put_leaf(sink);
+    }
+    put_leaf(sink);
+}
+
+static void try_deepest_image(struct tally *tally)
+{
+    uint16_t words[RULE_WORDS_MOST];
+    struct word_sink sink = sink_into(words, RULE_WORDS_MOST);
+    struct arena arena = arena_for_runs();
+
+    put_deepest_in_image(&sink);
+    struct both_runs runs = run_both(&arena, sink_words(&sink));
+    expect(tally,
+           runs.refusal.number == REFUSED_NOTHING &&
+               read_image(&arena, runs.image).term != NULL,
+           "images", "the deepest is read");
+    arena_release(&arena);
 }
 
 static void try_case_n(struct tally *tally)
@@ -213,10 +248,12 @@ int run_selftest(FILE *out)
     try_refused(&tally, place_cases, PLACE_CASES);
     try_refused(&tally, dead_cases, DEAD_CASES);
     try_dead_arms(&tally);
+    try_arguments(&tally);
     try_highest_place(&tally);
     try_printing(&tally);
     try_run_cases(&tally);
-    try_case_b_image(&tally);
+    try_images(&tally);
+    try_deepest_image(&tally);
     try_case_n(&tally);
     try_case_o(&tally);
     try_files(&tally);

@@ -68,14 +68,14 @@ static bool second_is_dead_if_equal(struct arm first, struct arm second)
 /* Of the first tags every one with every arity. */
 static struct arm numbered_arm(size_t number)
 {
-    const size_t arities = SECOND_WORD_MOST + 1;
+    const size_t arities = ARGUMENTS_MOST + 1;
 
     return (struct arm){ number / arities, number % arities };
 }
 
 static void try_every_pair(struct tally *tally)
 {
-    const size_t numbers = 20 * (SECOND_WORD_MOST + 1);
+    const size_t numbers = 20 * (ARGUMENTS_MOST + 1);
     bool by_tag = true;
     bool by_both = true;
 

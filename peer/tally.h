@@ -10,7 +10,7 @@
 #include "rule.h"
 #include "words.h"
 
-enum { LENT_WORDS = 128, LENT_BYTES = 64 };
+enum { LENT_WORDS = 512, LENT_BYTES = 64 };
 
 struct tally {
     FILE *out;

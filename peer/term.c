@@ -1,6 +1,6 @@
 #include "term.h"
 
-enum { LOW_BYTE_BITS = 8, LAYOUTS = 2, IMAGE_ARGUMENTS_MOST = 9 };
+enum { LAYOUTS = 2 };
 
 enum parts_named { NAMED_NOWHERE, NAMED_BY_LOW, NAMED_BY_SECOND };
 
@@ -86,7 +86,7 @@ bool kind_has_second_word(uint8_t kind)
 
 bool second_is_in_range(uint16_t second)
 {
-    return second <= SECOND_WORD_MOST;
+    return second <= ARGUMENTS_MOST;
 }
 
 static size_t part_count(const struct term *term)

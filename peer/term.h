@@ -21,13 +21,17 @@ enum kind {
     KIND_CONTINUATION = 9
 };
 
-/* "In an image, functions and calls have 1 to 9 arguments." */
 enum layout { LAYOUT_RULE, LAYOUT_IMAGE };
 
+/*
+ * "Raise the limit from 8 to 15 for functions, calls, constructors and arms,
+ * so images reach 16 arguments."
+ */
 enum {
+    LOW_BYTE_BITS = 8,
     LOW_BYTE_MOST = 255,
-    SECOND_WORD_MOST = 8,
-    ARGUMENTS_MOST = 8,
+    ARGUMENTS_MOST = 15,
+    IMAGE_ARGUMENTS_MOST = ARGUMENTS_MOST + 1,
     ARMS_MOST = 32
 };
 

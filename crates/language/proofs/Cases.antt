@@ -17,11 +17,7 @@ use Rattle.language.specs.Dead.{dead}
 use Rattle.language.specs.Read.{Reading, accepted, refused, then, made, second, many, unlike, armsOf, opened, term, closed, ended, read}
 use Rattle.language.specs.Calls.{Reply, success, refusal, filled, written}
 use Rattle.language.specs.Cases.{Result, Case, Said, Prints, ComesTo, Meets, worked, Each, WorkedRules}
-use Rattle.language.proofs.Eval.{Ran, eval}
-
--- levels enough for the run of each worked rule's image
-abbrev levels : ℕ
-levels = 64
+use Rattle.language.proofs.Eval.{levels, Ran, eval}
 
 both : (a b : Bool) → T (a && b) → T a × T b
 both true b h = (tt, h)

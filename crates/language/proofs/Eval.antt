@@ -11,6 +11,10 @@ use Rattle.language.specs.Term.{Lang, rules, images, Term, Terms, Arms, 
 use Rattle.language.specs.Sub.{sub}
 use Rattle.language.specs.Run.{atoms, Value, Values, v-fun, v-con, v-nil, v-cons, Enters, all, first, rev, itself, took, Run, Runs, taken, built, bound, called, matched, done, then}
 
+-- levels enough for the run of each worked rule and of its image
+abbrev pub levels : ℕ
+levels = 200
+
 -- a run of a term, with its value
 pub record Ran (L : Lang) (t : Term) : Type 0 where
   pub value : Term

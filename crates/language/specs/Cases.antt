@@ -1,10 +1,11 @@
 -- The worked rules A to N of document 01, "Worked rules", in one table, and what is claimed of each of them; refusals with their places (document 02,
--- Wish 1); matches on a short and a long form of one tag (Wish 3). (Case O and larger rules are run by a program.)
+-- Wish 1); matches on a short and a long form of one tag (Wish 3); dead arms (Wish 4); fifteen arguments (Wish 5). (Case O and larger rules are run by
+-- a program.)
 use Prim.Native.Nat.{ℕ}
 use mathlib.Core.List.{List, [], _∷_, _++_, map}
 use mathlib.Core.Option.{Option, some, none}
 use mathlib.Core.Path.{_≡_}
-use lib.ListN.{replicate}
+use lib.ListN.{length, replicate}
 use Rattle.language.specs.Term.{images, Term}
 use Rattle.language.specs.Words.{words}
 use Rattle.language.specs.Run.{Run, count}
@@ -53,16 +54,24 @@ pub record Example : Type 0 where
 abbrev pub example : List ℕ → ℕ → List ℕ → ℕ → Example
 example ws n v a = record { rule = ws; fills = n; result = record { value = v; applications = a } }
 
+-- room to spare: more words than the image of any rule below has
+abbrev spare : ℕ
+spare = 300
+
 -- with room to spare: the count of the image's words, the value and the applications; and the image, in whole
 abbrev pub runs : Example → Case
-runs x = record { rule = x .rule; room = 100; reply = success (x .fills); printed = none; result = some (x .result) }
+runs x = record { rule = x .rule; room = spare; reply = success (x .fills); printed = none; result = some (x .result) }
 
-abbrev pub prints : Example → List ℕ → Case
-prints x i = record { rule = x .rule; room = 100; reply = success (x .fills); printed = some i; result = none }
+abbrev pub prints : List ℕ → List ℕ → Case
+prints ws i = record { rule = ws; room = spare; reply = success (length i); printed = some i; result = none }
 
 -- the reply to the writing call that is lent so many words
 abbrev pub replies : List ℕ → ℕ → Reply ℕ → Case
 replies ws room r = record { rule = ws; room = room; reply = r; printed = none; result = none }
+
+-- a refusal and its place, whatever the room
+abbrev pub refuses : List ℕ → ℕ → ℕ → Case
+refuses ws e p = replies ws spare (refusal e p)
 
 -- A to G
 abbrev pub caseA : Example
@@ -127,6 +136,32 @@ nested =
 abbrev again : List ℕ → List ℕ → List ℕ
 again a w = 0x0703 ∷ short ++ shortArm ++ a ++ (0x0805 ∷ w)
 
+-- Wish 5: "one argument per landing": constructors with the tags 0 to 13, and 14
+abbrev fourteen : List ℕ
+fourteen =
+    0x0600 ∷ 0x0000 ∷ 0x0601 ∷ 0x0000 ∷ 0x0602 ∷ 0x0000 ∷ 0x0603 ∷ 0x0000 ∷ 0x0604 ∷ 0x0000 ∷ 0x0605 ∷ 0x0000 ∷ 0x0606 ∷ 0x0000
+    ∷ 0x0607 ∷ 0x0000 ∷ 0x0608 ∷ 0x0000 ∷ 0x0609 ∷ 0x0000 ∷ 0x060A ∷ 0x0000 ∷ 0x060B ∷ 0x0000 ∷ 0x060C ∷ 0x0000 ∷ 0x060D ∷ 0x0000 ∷ []
+
+abbrev fifteen : List ℕ
+fifteen = fourteen ++ (0x060E ∷ 0x0000 ∷ [])
+
+-- a function of fifteen arguments, which gives its first
+abbrev pub passesFifteen : Example
+passesFifteen = example (0x040F ∷ 0x020F ∷ 0x010E ∷ fifteen) 139 (0x0600 ∷ 0x0000 ∷ []) 36
+
+-- a recursive one, which gives its first where its last has the tag 13, and calls itself with the last moved to the front where that has the tag 14
+abbrev pub turnsFifteen : Example
+turnsFifteen =
+    example (0x040F ∷ 0x030F ∷ 0x0702 ∷ 0x0100 ∷ 0x080E ∷ 0x0000 ∷ 0x040F ∷ 0x010F ∷ 0x0100 ∷ 0x010E ∷ 0x010D ∷ 0x010C ∷ 0x010B ∷ 0x010A ∷ 0x0109
+    ∷ 0x0108 ∷ 0x0107 ∷ 0x0106 ∷ 0x0105 ∷ 0x0104 ∷ 0x0103 ∷ 0x0102 ∷ 0x0101 ∷ 0x080D ∷ 0x0000 ∷ 0x010E ∷ fifteen) 271
+    (0x060E ∷ 0x0000 ∷ []) 76
+
+-- a constructor of fifteen arguments, the last of them unfinished, and an arm of fifteen, which gives the last
+abbrev pub buildsFifteen : Example
+buildsFifteen =
+    example (0x0701 ∷ 0x0607 ∷ 0x000F ∷ fourteen ++ (0x0500 ∷ 0x060E ∷ 0x0000 ∷ 0x0100 ∷ 0x0807 ∷ 0x000F ∷ 0x0100 ∷ [])) 152
+    (0x060E ∷ 0x0000 ∷ []) 38
+
 abbrev pub imageB : List ℕ
 imageB =
     0x0401 ∷ 0x0201 ∷ 0x0401 ∷ 0x0201 ∷ 0x0401 ∷ 0x0900 ∷ 0x0202 ∷ 0x0401
@@ -134,9 +169,15 @@ imageB =
     ∷ 0x0401 ∷ 0x0900 ∷ 0x0600 ∷ 0x0000 ∷ 0x0201 ∷ 0x0402 ∷ 0x0901 ∷ 0x0902
     ∷ 0x0900 ∷ 0x0201 ∷ 0x0900 ∷ []
 
--- A to G, B's image, H to M, and N at 7 and at 8 words; then faults in the midst of a rule: a constructor's second word and one that is missing, a
--- later argument, an arm's head and its second word; then dead arms, right behind their like and with an arm between them, what is tested before 18
--- and what after it; then the nested matches and the requests
+-- "so images reach 16 arguments": the image of a function of fifteen arguments that gives its first
+abbrev pub imageOfFifteen : List ℕ
+imageOfFifteen =
+    0x0401 ∷ 0x0201 ∷ 0x0401 ∷ 0x0900 ∷ 0x0210 ∷ 0x0401 ∷ 0x0201 ∷ 0x0401
+    ∷ 0x0900 ∷ 0x010E ∷ 0x0900 ∷ 0x0201 ∷ 0x0900 ∷ []
+
+-- A to G, B's image, H to M, and N at 7 and at 8 words; then faults in the midst of a rule: a constructor's second word that is missing, a later
+-- argument, an arm's head; then dead arms, right behind their like and with an arm between them, what is tested before 18 and what after it; then the
+-- nested matches; then sixteen arguments and fifteen; then the requests
 abbrev pub worked : List Case
 worked =
     runs caseA
@@ -146,28 +187,35 @@ worked =
     ∷ runs caseE
     ∷ runs caseF
     ∷ runs caseG
-    ∷ prints caseB imageB
-    ∷ replies [] 100 (refusal 1 noPlace)
-    ∷ replies (0x0100 ∷ []) 100 (refusal 7 0)
-    ∷ replies (0x0401 ∷ 0x0201 ∷ 0x0100 ∷ []) 100 (refusal 3 3)
-    ∷ replies (0x0200 ∷ 0x0100 ∷ []) 100 (refusal 5 0)
-    ∷ replies (0x0600 ∷ 0x0000 ∷ 0x0600 ∷ []) 100 (refusal 8 2)
-    ∷ replies (0x0A00 ∷ []) 100 (refusal 4 0)
+    ∷ prints (caseB .rule) imageB
+    ∷ refuses [] 1 noPlace
+    ∷ refuses (0x0100 ∷ []) 7 0
+    ∷ refuses (0x0401 ∷ 0x0201 ∷ 0x0100 ∷ []) 3 3
+    ∷ refuses (0x0200 ∷ 0x0100 ∷ []) 5 0
+    ∷ refuses (0x0600 ∷ 0x0000 ∷ 0x0600 ∷ []) 8 2
+    ∷ refuses (0x0A00 ∷ []) 4 0
     ∷ replies (caseA .rule) 7 (refusal 9 noPlace)
     ∷ replies (caseA .rule) 8 (success 8)
-    ∷ replies (0x0600 ∷ 0x0009 ∷ []) 100 (refusal 5 1)
-    ∷ replies (0x0600 ∷ []) 100 (refusal 3 1)
-    ∷ replies (0x0402 ∷ 0x0201 ∷ 0x0100 ∷ 0x0600 ∷ 0x0000 ∷ 0x0101 ∷ []) 100 (refusal 7 5)
-    ∷ replies (0x0701 ∷ 0x0600 ∷ 0x0000 ∷ 0x0600 ∷ []) 100 (refusal 4 3)
-    ∷ replies (0x0701 ∷ 0x0600 ∷ 0x0000 ∷ 0x0800 ∷ 0x0009 ∷ []) 100 (refusal 5 4)
-    ∷ replies (asks short shortArm shortArm) 100 (refusal 18 8)
-    ∷ replies (again longArm (0x0000 ∷ 0x0603 ∷ 0x0000 ∷ [])) 100 (refusal 18 11)
-    ∷ replies (again longArm []) 100 (refusal 3 11)
-    ∷ replies (again longArm (0x0009 ∷ [])) 100 (refusal 5 11)
-    ∷ replies (again longArm (0x0100 ∷ [])) 100 (refusal 5 11)
-    ∷ replies (again longArm (0x0000 ∷ 0x0A00 ∷ [])) 100 (refusal 18 11)
-    ∷ replies (again (0x0805 ∷ 0x0001 ∷ 0x0101 ∷ []) (0x0000 ∷ short)) 100 (refusal 7 9)
+    ∷ refuses (0x0600 ∷ []) 3 1
+    ∷ refuses (0x0402 ∷ 0x0201 ∷ 0x0100 ∷ 0x0600 ∷ 0x0000 ∷ 0x0101 ∷ []) 7 5
+    ∷ refuses (0x0701 ∷ 0x0600 ∷ 0x0000 ∷ 0x0600 ∷ []) 4 3
+    ∷ refuses (asks short shortArm shortArm) 18 8
+    ∷ refuses (again longArm (0x0000 ∷ 0x0603 ∷ 0x0000 ∷ [])) 18 11
+    ∷ refuses (again longArm []) 3 11
+    ∷ refuses (again longArm (0x00FF ∷ [])) 5 11
+    ∷ refuses (again longArm (0x0100 ∷ [])) 5 11
+    ∷ refuses (again longArm (0x0000 ∷ 0x0A00 ∷ [])) 18 11
+    ∷ refuses (again (0x0805 ∷ 0x0001 ∷ 0x0101 ∷ []) (0x0000 ∷ short)) 7 9
     ∷ runs nested
+    ∷ refuses (0x0210 ∷ 0x0100 ∷ []) 5 0
+    ∷ refuses (0x0310 ∷ 0x0100 ∷ []) 5 0
+    ∷ refuses (0x0410 ∷ []) 5 0
+    ∷ refuses (0x0600 ∷ 0x0010 ∷ []) 5 1
+    ∷ refuses (0x0701 ∷ 0x0600 ∷ 0x0000 ∷ 0x0800 ∷ 0x0010 ∷ []) 5 4
+    ∷ prints (0x020F ∷ 0x010E ∷ []) imageOfFifteen
+    ∷ runs passesFifteen
+    ∷ runs turnsFifteen
+    ∷ runs buildsFifteen
     ∷ map runs requests
 
 -- P holds of each of them

@@ -11,9 +11,9 @@ use Rattle.language.specs.declared.Row.{Row}
 use Rattle.language.specs.declared.Head.{Head}
 use Rattle.language.specs.declared.Head.the-variants.{Refused, Opens}
 
--- "arguments, 1 to 8"; "a word 0 to 8": the most arguments of a function, a call, a constructor and an arm
+-- document 02, Wish 5: "Raise the limit from 8 to 15 for functions, calls, constructors and arms"
 abbrev pub mostArguments : ℕ
-mostArguments = 8
+mostArguments = 15
 
 -- "arms, 1 to 32"
 abbrev pub mostArms : ℕ

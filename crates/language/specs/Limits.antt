@@ -18,7 +18,8 @@ mostWords = 4096
 abbrev pub mostImageWords : ℕ
 mostImageWords = 28672
 
--- `Ranged L t`: each number in t is within its range in the language L. "In an image, functions and calls have 1 to 9 arguments."
+-- `Ranged L t`: each number in t is within its range in the language L. In an image functions and calls have one argument more than in a rule:
+-- "so images reach 16 arguments" (document 02, Wish 5).
 mutual
   pub data Ranged (L : Lang) : Term → Type 0 where
     r-var : {i : ℕ} → i ≤ mostByte → Ranged L (var i)

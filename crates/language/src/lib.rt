@@ -3,7 +3,7 @@ ghost use mathlib.Core.Path.{_≡_};
 ghost use Rattle.language.specs.Kinds.{rowOf, headOf};
 
 // The most arguments of a function, a call, a constructor or an arm.
-pub const MOST_ARGUMENTS: u8 = 8;
+pub const MOST_ARGUMENTS: u8 = 15;
 
 // The most arms of a match.
 pub const MOST_ARMS: u8 = 32;

@@ -12,15 +12,11 @@ use Rattle.language.specs.Image.{downto, passing, carried, image}
 use Rattle.language.specs.Kinds.{headOf}
 use Rattle.language.specs.Dead.{dead}
 use Rattle.language.specs.Read.{Reading, accepted, refused, then, made, second, many, unlike, armsOf, opened, term, closed, ended, read}
-use Rattle.language.proofs.Eval.{Ran, eval}
+use Rattle.language.proofs.Eval.{levels, Ran, eval}
 use Rattle.meaning.specs.Promises.{applications}
 use Rattle.language.specs.Cases.{Each}
 use Rattle.meaning.specs.Worked.{Row, ran, Agrees, WorkedRuns}
 use Rattle.meaning.proofs.Steps.{comes}
-
--- levels enough for each worked rule's run and its image's
-abbrev levels : ℕ
-levels = 64
 
 -- what is compared: the value and the counts of the rule's run; the value, the calls, the lets and the matches of the image's; and the sum
 abbrev Seen : Type 0
@@ -71,4 +67,4 @@ all-computed (x ∷ xs) h = (computed x (read (x .of .rule)) refl (h .0), all-co
 
 pub worked-runs : WorkedRuns
 unfolding read closed ended term then made second many unlike dead armsOf opened headOf words image passing downto atom size sub rev itself took eval count
-worked-runs = all-computed ran (refl, (refl, (refl, (refl, (refl, (refl, (refl, (refl, (refl, (refl, (refl, (refl, tt))))))))))))
+worked-runs = all-computed ran (refl, (refl, (refl, (refl, (refl, (refl, (refl, (refl, (refl, (refl, (refl, (refl, (refl, (refl, (refl, tt)))))))))))))))

@@ -1,4 +1,4 @@
--- The worked rules A to G of document 01 and those of document 02's Wish 3, run as rules and as images: one table, and the one claim that its numbers are those of both runs.
+-- The worked rules A to G of document 01 and those of document 02's Wishes 3, 4 and 5, run as rules and as images: one table, and the one claim that its numbers are those of both runs.
 use mathlib.Core.Path.{_≡_}
 use mathlib.Core.List.{List, _∷_, map}
 use Rattle.language.specs.Term.{rules, Term}
@@ -6,7 +6,7 @@ use Rattle.language.specs.Words.{words}
 use Rattle.language.specs.Run.{Counts, uses, Run, count}
 use Rattle.language.specs.Image.{image, carried}
 use Rattle.language.specs.Read.{read, accepted}
-use Rattle.language.specs.Cases.{Each, Example, caseA, caseB, caseC, caseD, caseE, caseF, caseG, nested, requests}
+use Rattle.language.specs.Cases.{Each, Example, caseA, caseB, caseC, caseD, caseE, caseF, caseG, nested, passesFifteen, turnsFifteen, buildsFifteen, requests}
 use Rattle.meaning.specs.Promises.{applications, Comes}
 
 -- an example, and how often its run uses each rule
@@ -28,6 +28,9 @@ ran =
     ∷ row caseF (uses 7 2 0 2 0)
     ∷ row caseG (uses 1 0 0 0 0)
     ∷ row nested (uses 4 0 0 3 0)
+    ∷ row passesFifteen (uses 17 1 0 0 0)
+    ∷ row turnsFifteen (uses 35 2 0 2 0)
+    ∷ row buildsFifteen (uses 17 0 1 1 1)
     ∷ map (λ x. row x (uses 2 0 0 1 0)) requests
 
 -- the rule has a run with the example's value and the row's counts; its image comes to the value's carried form by the example's applications,

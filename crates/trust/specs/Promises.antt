@@ -1,11 +1,11 @@
 -- What a reader of the definitions may rely on.
-use Prim.Native.Nat.{ℕ, _+_, _<_, _≤_, _^_}
+use Prim.Native.Nat.{ℕ, _+_, _<_, _≤_, _^_, max}
 use mathlib.Core.Path.{_≡_}
 use mathlib.Core.List.{List, _++_}
 use mathlib.Core.Option.{some}
 use lib.ListN.{length, getD, take}
-use Rattle.language.specs.Term.{Lang, rules, images, Term, Arms, arm, size}
-use Rattle.language.specs.Words.{words}
+use Rattle.language.specs.Term.{Lang, rules, images, Term, Terms, Arms, var, kvar, fun, call, bind, con, cases, nil, cons, none, arm, size}
+use Rattle.language.specs.Words.{added, words}
 use Rattle.language.specs.Limits.{mostWords, Ranged, Rule}
 use Rattle.language.specs.Run.{took}
 use Rattle.language.specs.Dead.{behind, Taken, Live}
@@ -60,7 +60,8 @@ pub record Fit (ws : List ℕ) : Type 0 where
 abbrev pub WordsFit : Type 0
 WordsFit = (L : Lang) (t : Term) → Ranged L t → Fit (words L t)
 
--- "In an image, functions and calls have 1 to 9 arguments", and indices are 0 to 255
+-- an image's functions and calls have at least one argument, and one more at most than a rule's ("so images reach 16 arguments"), and its indices are
+-- 0 to 255
 abbrev pub ImagesInRange : Type 0
 ImagesInRange = (t : Term) → Ranged rules t → Ranged images (image t)
 
@@ -71,3 +72,27 @@ WordsDetermine = (L : Lang) (t u : Term) → Ranged L t → Ranged L u → words
 -- so of every accepted rule: each word of its image fits 16 bits, and each number in it is within the image ranges
 abbrev pub AcceptedImagesFit : Type 0
 AcceptedImagesFit = (ws : List ℕ) (t : Term) → read ws ≡ accepted t → Ranged images (image t) × Fit (words images (image t))
+
+-- the most arguments that a function, a call, a constructor or an arm of a term has in the language L
+unfoldable mutual
+  pub widest : Lang → Term → ℕ
+  widest L (var i) = 0
+  widest L (kvar i) = 0
+  widest L (fun o a b) = max (a + added L) (widest L b)
+  widest L (call f ps) = max (size ps) (max (widest L f) (widestᵗ L ps))
+  widest L (bind m b) = max (widest L m) (widest L b)
+  widest L (con t ps) = max (size ps) (widestᵗ L ps)
+  widest L (cases m ps) = max (widest L m) (widestᵃ L ps)
+
+  pub widestᵗ : Lang → Terms → ℕ
+  widestᵗ L nil = 0
+  widestᵗ L (cons t ts) = max (widest L t) (widestᵗ L ts)
+
+  pub widestᵃ : Lang → Arms → ℕ
+  widestᵃ L none = 0
+  widestᵃ L (arm t n b ps) = max n (max (widest L b) (widestᵃ L ps))
+
+-- document 02, Wish 5: no accepted rule has more than 15 and no image more than 16, and there is one that has both: "so images reach 16 arguments"
+pub record FifteenAndSixteen : Type 0 where
+  pub most : (ws : List ℕ) (t : Term) → read ws ≡ accepted t → (widest rules t ≤ 15) × (widest images (image t) ≤ 16)
+  pub reached : (ws : List ℕ) × (t : Term) × (read ws ≡ accepted t) × (widest rules t ≡ 15) × (widest images (image t) ≡ 16)
