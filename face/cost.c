@@ -23,7 +23,7 @@
 #include "peatnickel.h"
 #include "shapes.h"
 
-enum { IMAGE_MOST = 28672, RULE_MOST = 4096, RULES_MOST = 2048, STACK_BYTES = 1 << 22 };
+enum { IMAGE_MOST = 28672, RULE_MOST = 4096, RULES_MOST = 4096, STACK_BYTES = 1 << 22 };
 
 typedef uint32_t (*call)(struct word_list rule);
 
@@ -94,7 +94,7 @@ static call call_of(char side, char name)
 static struct word_list rules[RULES_MOST];
 static size_t rule_count;
 
-/* The records of a corpus, all or those that are accepted. */
+/* The records of a corpus, all or those that are accepted. A corpus of more than there is room for is none. */
 static void read_corpus(const char *path, bool accepted_only)
 {
     FILE *in = fopen(path, "rb");
@@ -102,11 +102,11 @@ static void read_corpus(const char *path, bool accepted_only)
 
     if (corpus == NULL)
         exit(EXIT_FAILURE);
-    while (next_record(corpus) && rule_count < RULES_MOST) {
+    while (next_record(corpus)) {
         struct word_list record = record_words(corpus);
         uint16_t *words = malloc((record.count + 1) * sizeof *words);
 
-        if (words == NULL)
+        if (words == NULL || rule_count == RULES_MOST)
             exit(EXIT_FAILURE);
         memcpy(words, record.words, record.count * sizeof *words);
         record.words = words;
