@@ -69,7 +69,7 @@ prints ws i = record { rule = ws; room = spare; reply = success (length i); prin
 abbrev pub replies : List ℕ → ℕ → Reply ℕ → Case
 replies ws room r = record { rule = ws; room = room; reply = r; printed = none; result = none }
 
--- a refusal and its place, whatever the room
+-- with room to spare, a refusal and its place
 abbrev pub refuses : List ℕ → ℕ → ℕ → Case
 refuses ws e p = replies ws spare (refusal e p)
 
