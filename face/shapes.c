@@ -122,12 +122,6 @@ static void put_opening(struct word_sink *sink)
     put_kind(sink, KIND_FUNCTION, 1);
 }
 
-static void put_variables(struct word_sink *sink, size_t count)
-{
-    for (; count > 0; count--)
-        put_kind(sink, KIND_VARIABLE, 0);
-}
-
 static void put_deep_functions(struct word_sink *sink, size_t most)
 {
     (void)most;

@@ -111,8 +111,7 @@ static void put_wide_recursion(struct maker *maker,
         put_turn(maker, arguments, arguments - i);
     put_two(maker->sink, KIND_ARM, arguments - 1 - turns, 0);
     put_kind(maker->sink, KIND_VARIABLE, given_back);
-    for (size_t i = 0; i < arguments; i++)
-        put_two(maker->sink, KIND_CONSTRUCTOR, i, 0);
+    put_places(maker->sink, arguments);
 }
 
 /* The tag is most often the one that comes next. */

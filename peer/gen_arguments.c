@@ -2,13 +2,6 @@
 
 #include "gen_record.h"
 
-/* Arguments that have their places for tags. */
-static void put_places(struct word_sink *sink, size_t count)
-{
-    for (size_t i = 0; i < count; i++)
-        put_two(sink, KIND_CONSTRUCTOR, i, 0);
-}
-
 void put_call_of(struct word_sink *sink, size_t arguments,
                  struct function function)
 {

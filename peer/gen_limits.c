@@ -53,12 +53,6 @@ static void write_nests(FILE *out)
     }
 }
 
-static void put_variables(struct word_sink *sink, size_t count)
-{
-    for (; count > 0; count--)
-        put_kind(sink, KIND_VARIABLE, 0);
-}
-
 /*
  * Calls or constructors with as many arguments as there may be, each the first
  * part of the one before, or its last. The deepest parts, a call's, stand at

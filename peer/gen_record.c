@@ -32,6 +32,18 @@ void put_leaf(struct word_sink *sink)
     put_two(sink, KIND_CONSTRUCTOR, 0, 0);
 }
 
+void put_places(struct word_sink *sink, size_t count)
+{
+    for (size_t i = 0; i < count; i++)
+        put_two(sink, KIND_CONSTRUCTOR, i, 0);
+}
+
+void put_variables(struct word_sink *sink, size_t count)
+{
+    for (; count > 0; count--)
+        put_kind(sink, KIND_VARIABLE, 0);
+}
+
 /* A constructor whose arguments share the remaining words evenly. */
 static void put_filler_constructor(struct word_sink *sink, size_t words)
 {

@@ -34,4 +34,10 @@ void put_filler(struct word_sink *sink, size_t words);
 /* 0600 0000, the shortest filler. */
 void put_leaf(struct word_sink *sink);
 
+/* Constructors without arguments that have their places for tags. */
+void put_places(struct word_sink *sink, size_t count);
+
+/* So many times x_0. */
+void put_variables(struct word_sink *sink, size_t count);
+
 #endif

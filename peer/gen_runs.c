@@ -134,8 +134,7 @@ static void write_forms(FILE *out, size_t arguments)
     start_record(&record);
     put_kind(&record.sink, KIND_MATCH, ARGUMENTS_MOST + 1);
     put_two(&record.sink, KIND_CONSTRUCTOR, 0, arguments);
-    for (size_t i = 0; i < arguments; i++)
-        put_two(&record.sink, KIND_CONSTRUCTOR, i, 0);
+    put_places(&record.sink, arguments);
     for (size_t i = 0; i <= ARGUMENTS_MOST; i++) {
         size_t arity = ARGUMENTS_MOST - i;
 
@@ -156,8 +155,7 @@ static void write_reordered(FILE *out)
     start_record(&record);
     put_kind(&record.sink, KIND_MATCH, 1);
     put_two(&record.sink, KIND_CONSTRUCTOR, LOW_BYTE_MOST, ARGUMENTS_MOST);
-    for (size_t i = 0; i < ARGUMENTS_MOST; i++)
-        put_two(&record.sink, KIND_CONSTRUCTOR, i, 0);
+    put_places(&record.sink, ARGUMENTS_MOST);
     put_two(&record.sink, KIND_ARM, LOW_BYTE_MOST, ARGUMENTS_MOST);
     put_two(&record.sink, KIND_CONSTRUCTOR, ARGUMENTS_MOST, ARGUMENTS_MOST);
     for (size_t i = ARGUMENTS_MOST; i-- > 0;)

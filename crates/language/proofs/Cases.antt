@@ -6,6 +6,7 @@ use mathlib.Core.Bool.{Bool, true, false, _&&_}
 use mathlib.Core.List.{List, [], _∷_}
 use mathlib.Core.Option.{Option, some, none}
 use lib.Dec.{T, eqb, eqb→eq}
+use mir.Facts.{and-yes}
 use lib.ListN.{replicate}
 use Rattle.language.specs.Term.{images, Term, size}
 use Rattle.language.specs.Words.{words}
@@ -19,10 +20,6 @@ use Rattle.language.specs.Calls.{Reply, success, refusal, filled, writte
 use Rattle.language.specs.Cases.{Result, Case, Said, Prints, ComesTo, Meets, worked, Each, WorkedRules}
 use Rattle.language.proofs.Eval.{levels, Ran, eval}
 
-both : (a b : Bool) → T (a && b) → T a × T b
-both true b h = (tt, h)
-both false b h = absurd h
-
 pub same : List ℕ → List ℕ → Bool
 same [] [] = true
 same [] (y ∷ ys) = false
@@ -34,7 +31,7 @@ unfolding same
 same-is [] [] h = refl
 same-is [] (y ∷ ys) h = absurd h
 same-is (x ∷ xs) [] h = absurd h
-same-is (x ∷ xs) (y ∷ ys) h = let p = both (eqb x y) (same xs ys) h in ap₂ _∷_ (eqb→eq x y (p .0)) (same-is xs ys (p .1))
+same-is (x ∷ xs) (y ∷ ys) h = let p = and-yes (eqb x y) (same xs ys) h in ap₂ _∷_ (eqb→eq x y (p .0)) (same-is xs ys (p .1))
 
 same-reply : Reply ℕ → Reply ℕ → Bool
 same-reply (success m) (success n) = eqb m n
@@ -48,7 +45,7 @@ same-reply-is (success m) (success n) h = ap success (eqb→eq m n h)
 same-reply-is (success m) (refusal e p) h = absurd h
 same-reply-is (refusal e p) (success n) h = absurd h
 same-reply-is (refusal e p) (refusal f q) h =
-    let b = both (eqb e f) (eqb p q) h in ap₂ refusal (eqb→eq e f (b .0)) (eqb→eq p q (b .1))
+    let b = and-yes (eqb e f) (eqb p q) h in ap₂ refusal (eqb→eq e f (b .0)) (eqb→eq p q (b .1))
 
 -- what is said of a case, by a test and a law that turns the test into the fact
 said : {A : Type 0} → Option A → (A → Bool) → Bool
@@ -87,7 +84,7 @@ coming-is (accepted t) r h = go (eval images levels (image t)) h
     go : (o : Option (Ran images (image t))) → T (ran o r) → ComesTo (accepted t) r
     go none h = absurd h
     go (some x) h =
-        let p = both (same (words images (x .value)) (r .value)) (eqb (count (x .run) .calls) (r .applications)) h in
+        let p = and-yes (same (words images (x .value)) (r .value)) (eqb (count (x .run) .calls) (r .applications)) h in
         (x .value, x .run, same-is (words images (x .value)) (r .value) (p .0), eqb→eq (count (x .run) .calls) (r .applications) (p .1))
 coming-is (refused e p) r h = absurd h
 
@@ -100,8 +97,8 @@ test c =
 test-is : (c : Case) → T (test c) → Meets c
 unfolding test
 test-is c h =
-    let p = both (same-reply (written (read (c .rule)) (replicate (c .room) 0) .reply) (c .reply)) _ h in
-    let q = both (said (c .printed) (printing (read (c .rule)))) _ (p .1) in
+    let p = and-yes (same-reply (written (read (c .rule)) (replicate (c .room) 0) .reply) (c .reply)) _ h in
+    let q = and-yes (said (c .printed) (printing (read (c .rule)))) _ (p .1) in
     record {
       replies = same-reply-is _ _ (p .0);
       prints = said-is (c .printed) _ (printing-is (read (c .rule))) (q .0);
@@ -116,7 +113,7 @@ tests (c ∷ cs) = test c && tests cs
 tests-is : (cs : List Case) → T (tests cs) → Each Meets cs
 unfolding tests
 tests-is [] h = tt
-tests-is (c ∷ cs) h = let p = both (test c) (tests cs) h in (test-is c (p .0), tests-is cs (p .1))
+tests-is (c ∷ cs) h = let p = and-yes (test c) (tests cs) h in (test-is c (p .0), tests-is cs (p .1))
 
 pub worked-rules : WorkedRules
 unfolding tests read closed ended term then made second many unlike dead armsOf opened headOf written filled words image passing downto atom size sub rev itself took eval count

@@ -2,11 +2,13 @@
 -- arms, and the words of what was read are at most seven times the words that it stands in.
 -- Assumes nothing.
 use Prim.Native.Nat.{ℕ, _+_, _*_, _%_, _<_, _≤_}
-use mathlib.Core.Path.{_≡_, sym, ap, _∙_}
-use mathlib.Core.Bool.{Bool}
+use mathlib.Core.Path.{_≡_, refl, sym, ap, _∙_}
+use mathlib.Core.Bool.{Bool, true}
 use mathlib.Core.List.{List}
 use native.Mathlib.Omega.{arith}
+use lib.Dec.{leb}
 use lib.ListN.{length, drop, length-append, length-drop}
+use borrow.Author.Tests.{leb-true}
 use mir.Syntax.{w64}
 use mir.Val.{Fits}
 use Rattle.language.specs.Term.{Terms}
@@ -21,7 +23,7 @@ use Rattle.language.proofs.Clash.{never}
 use Rattle.sizes.proofs.Promises.{bound, bounds, boundᵃ, leasts}
 use Rattle.trust.proofs.Rows.{Opened, o-var, o-fun, o-rec, o-call, o-let, o-con, o-match, o-arm, passed}
 use Rattle.trust.proofs.Accepted.{Holds, held, left, Goodᵗ, term-good, many-good, arms-good}
-use Rattle.reading.specs.Steps.{aWord, small, armWords, chainedWords, chainLength, stepOf, termStep, termsStep, armsStep, FewArms, wordsOf, Roomy}
+use Rattle.reading.specs.Steps.{aWord, small, chainLength, stepOf, termStep, termsStep, armsStep, FewArms, wordsOf, Roomy}
 use Rattle.reading.specs.declared.Step.{Step}
 use Rattle.reading.specs.declared.Step.the-variants.{Next}
 
@@ -101,30 +103,18 @@ pub s-part : {r : Step} {to c : ℕ} {b : Bool} → r ≡ Next to b c → wordsO
 unfolding wordsOf
 s-part e h = omega (arith, ap wordsOf e)
 
--- a list so far, z words for i of its things, and one more, with so many words of its own
+-- a list so far, z words for i of its k things, and one more, with so many words of its own
 module _ {r : Step} {to c : ℕ} {b : Bool} (e : r ≡ Next to b c) (h : wordsOf r ≤ small) (i k z : ℕ) (so-far : z ≤ 2 * small * i) where
-  pub s-sum-kept : (own : ℕ) → own ≤ small → z + c + own ≤ 2 * small * (i + 1)
-  s-sum-kept own l = omega (arith, s-part e h)
+  pub s-sum-kept : (own : ℕ) → leb own small ≡ true → z + c + own ≤ 2 * small * (i + 1)
+  s-sum-kept own l = omega (arith, s-part e h, leb-true own small l)
 
-  pub s-sum : (own : ℕ) → own ≤ small → i < k → k ≤ aWord → Fits w64 (z + c + own)
-  s-sum own o l m = record { fits = omega (arith, s-sum-kept own o) }
+  module _ (l : i < k) (m : k ≤ aWord) where
+    pub s-sum : (own : ℕ) → leb own small ≡ true → Fits w64 (z + c + own)
+    s-sum own o = record { fits = omega (arith, s-sum-kept own o) }
 
-  pub s-sum-first : i < k → k ≤ aWord → Fits w64 (z + c)
-  s-sum-first l m = record { fits = omega (arith, s-sum 0 (omega arith) l m .fits) }
-
--- a list's things are few, and each has few words of its own
-pub s-few : {k : ℕ} → k ≤ mostArms → k ≤ aWord
-s-few h = omega arith
-
-pub s-below : {k : ℕ} → k < aWord → k ≤ aWord
-s-below h = omega arith
-
-pub s-arm : armWords ≤ small
-s-arm = omega arith
-
-pub s-chained : chainedWords ≤ small
-s-chained = omega arith
+    pub s-sum-first : Fits w64 (z + c)
+    s-sum-first = record { fits = omega (arith, s-sum 0 refl .fits) }
 
 pub ruleset sums = (row-binds, row-arms, terms-roomy, s-term, s-terms, s-arms, s-part)
 
-pub ruleset list-sums = (s-sum, s-sum-first, s-sum-kept, s-few, s-below, s-arm, s-chained)
+pub ruleset list-sums = (s-sum, s-sum-first, s-sum-kept)

@@ -1,6 +1,6 @@
 -- The functions that read terms, lists and arms through each other meet their contracts: each way out is a law of `Ways`, and what is left are
 -- bounds. The loops over a list's terms and over a match's arms keep: what was read, joined to what is still to be read, is the whole.
--- The measure: a level of depth outweighs a head's parts, and these a list.
+-- The levels left fall from a term to its parts; among the readers of one level each calls those below it alone.
 -- Assumes nothing.
 use Prim.Native.Nat.{ℕ, _+_, _-_, _*_, _<_, _≤_}
 use borrow.Fn.Kinds.{In}
@@ -31,7 +31,7 @@ use mathlib.Core.Bool.{true}
 use mathlib.Core.List.{[]}
 use mathlib.Core.Logic.{inl, inr, ⊎-elim}
 use lib.ListN.{length, take, length-take}
-use Rattle.language.specs.Kinds.{mostArms, mostByte}
+use Rattle.language.specs.Kinds.{mostArms}
 use Rattle.language.specs.Read.{many, armsOf, term}
 use Rattle.arities.specs.Marks.{unmarked}
 use Rattle.reading.specs.Steps.{aWord, small, termsStep, armsStep}
@@ -39,20 +39,21 @@ use Rattle.reading.proofs.Sums.{sums}
 use Rattle.reading.proofs.Steps.{joinedOf}
 use Rattle.reading.proofs.Ways.{l-met, ways, terms-ways, arms-ways}
 
-abbrev level : ℕ
-level = 2 * aWord
+-- a reader of a thing of d levels, which calls no reader of d levels but those of a lower number; the numbers are 0 to 2
+abbrev rank : ℕ → ℕ → ℕ
+rank d n = 3 * d + n
 
 abbrev μ-arms-at : Measures 1 arms-at-kinds.ps ℕ
-μ-arms-at κs a = level * a .1 .1 .0 + mostByte
+μ-arms-at κs a = rank (a .1 .1 .0) 1
 
 abbrev μ-opened-at : Measures 1 opened-at-kinds.ps ℕ
-μ-opened-at κs a = level * a .1 .1 .0 + aWord
+μ-opened-at κs a = rank (a .1 .1 .0) 2
 
 abbrev μ-term-at : Measures 1 term-at-kinds.ps ℕ
-μ-term-at κs a = level * a .1 .1 .0
+μ-term-at κs a = rank (a .1 .1 .0) 0
 
 abbrev μ-terms-at : Measures 1 terms-at-kinds.ps ℕ
-μ-terms-at κs a = level * a .1 .1 .0 + mostByte
+μ-terms-at κs a = rank (a .1 .1 .0) 1
 
 abbrev arms-at-at : ℕ → In 1 arms-at-kinds.ps
 arms-at-at t = and 1 arms-at-kinds.ps (is 1 arms-at-kinds.ps μ-arms-at t) arms-at.Pre
@@ -82,7 +83,7 @@ abbrev arms-at-Inv-loop : arms-at-lts.InvT-loop
 arms-at-Inv-loop s at left bound count marks₀ next₀ words₀ i₀ marks next words i =
     (joinedOf true words (armsStep (armsOf s (term s left) (unmarked (take i marks)) bound (count - i) next))
     ≡ armsStep (armsOf s (term s left) [] bound count at))
-    × (i ≤ count) × (words ≤ 2 * small * i) × (length marks ≡ mostArms)
+    × (i ≤ count) × (words ≤ 2 * small * i) × (count ≤ aWord) × (length marks ≡ mostArms)
 
 abbrev arms-at-μ-loop : arms-at-lts.MeasureT-loop
 arms-at-μ-loop s at left bound count marks₀ next₀ words₀ i₀ marks next words i = count - i
@@ -90,7 +91,7 @@ arms-at-μ-loop s at left bound count marks₀ next₀ words₀ i₀ marks next 
 abbrev terms-at-Inv-loop : terms-at-lts.InvT-loop
 terms-at-Inv-loop s at left bound count next₀ all₀ words₀ i₀ next all words i =
     (joinedOf all words (termsStep (many (term s left bound) (count - i) next)) ≡ termsStep (many (term s left bound) count at))
-    × (i ≤ count) × (words ≤ 2 * small * i)
+    × (i ≤ count) × (words ≤ 2 * small * i) × (count ≤ aWord)
 
 abbrev terms-at-μ-loop : terms-at-lts.MeasureT-loop
 terms-at-μ-loop s at left bound count next₀ all₀ words₀ i₀ next all words i = count - i
@@ -124,12 +125,12 @@ pub +arms-at+opened-at+term-at+terms-at-spec : {M : Type 1} → statement M
 +arms-at+opened-at+term-at+terms-at-spec =
     close μ-arms-at μ-opened-at μ-term-at μ-terms-at
     (λ t. arms-at-lts.spec (arms-at-calls t) (arms-at-at t) arms-at.Post arms-at-Inv-loop arms-at-μ-loop
-    (λ c. (search arms-ways, omega arith, omega arith, refl)) (λ c. search arms-ways) (λ c. simp length-take (omega arith))
+    (λ c. (search arms-ways, omega arith, omega arith, omega arith, refl)) (λ c. search arms-ways) (λ c. simp length-take (omega arith))
     (λ c κs. search arms-ways) (λ c. search arms-ways) (λ c. search arms-ways) (λ c. search arms-ways) (λ c. search arms-ways)
     (λ c. search arms-ways) (λ c κs. search arms-ways) (λ c. search arms-ways) (λ c. search arms-ways) (λ c. search arms-ways)
     (λ c. search arms-ways) (λ c κs. search arms-ways) (λ c. search arms-ways) (λ c. search arms-ways) (λ c. search arms-ways)
     (λ c. search arms-ways) (λ c. search arms-ways) (λ c. search arms-ways) (λ c. search arms-ways)
-    (λ c. (search arms-ways, omega arith, search arms-ways, search arms-ways)) (λ c. search arms-ways))
+    (λ c. (search arms-ways, omega arith, search arms-ways, search arms-ways, search arms-ways)) (λ c. search arms-ways))
     (λ t. opened-at-lts.spec (opened-at-calls t) (opened-at-at t) opened-at.Post
     (λ c. search ways) (λ c. search ways) (λ c. search ways) (λ c. search ways) (λ c. search ways) (λ c. search ways)
     (λ c κs. search ways) (λ c κs. search ways) (λ c. search ways) (λ c κs. search ways) (λ c. search ways) (λ c. search ways)
@@ -146,8 +147,8 @@ pub +arms-at+opened-at+term-at+terms-at-spec : {M : Type 1} → statement M
     (λ c κs. (omega arith, (omega arith, omega arith, omega arith, omega arith, search sums, search sums))) (λ c. search ways)
     (λ c. search ways))
     (λ t. terms-at-lts.spec (terms-at-calls t) (terms-at-at t) terms-at.Post terms-at-Inv-loop terms-at-μ-loop
-    (λ c. (search terms-ways, omega arith, omega arith)) (λ c κs. search terms-ways) (λ c. search terms-ways) (λ c. search terms-ways)
+    (λ c. (search terms-ways, omega arith, omega arith, omega arith)) (λ c κs. search terms-ways) (λ c. search terms-ways) (λ c. search terms-ways)
     (λ c. search terms-ways) (λ c. search terms-ways) (λ c. search terms-ways) (λ c. search terms-ways) (λ c. search terms-ways)
     (λ c. let met = l-met (⊎-elim (λ w. inl (w .0 .taken, w .1)) (λ w. inr (w .0 .left, w .1)) (c .if1 .came)) in
-    (search (terms-ways, met), omega arith, search terms-ways))
+    (search (terms-ways, met), omega arith, search terms-ways, search terms-ways))
     (λ c. search terms-ways))

@@ -67,47 +67,51 @@ use Rattle.writing.specs.Jobs.{keeps, chained, branches}
 use Rattle.writing.proofs.Jobs.{Left}
 use Rattle.writing.proofs.Ways.{ways, kept-small, branches-inside}
 
+-- a writer of a thing of d levels, which calls no writer of d levels but those of a lower number; the numbers are 0 to 5
+abbrev rank : ℕ → ℕ → ℕ
+rank d n = 6 * d + n
+
 abbrev μ-put-arms : Measures 2 put-arms-kinds.ps ℕ
-μ-put-arms κs a = 6 * a .1 .1 .1 .1 .0 + 5
+μ-put-arms κs a = rank (a .1 .1 .1 .1 .0) 5
 
 abbrev μ-put-atom : Measures 2 put-atom-kinds.ps ℕ
-μ-put-atom κs a = 6 * a .1 .1 .1 .1 .0 + 2
+μ-put-atom κs a = rank (a .1 .1 .1 .1 .0) 2
 
 abbrev μ-put-build : Measures 2 put-build-kinds.ps ℕ
-μ-put-build κs a = 6 * a .1 .1 .1 .1 .0
+μ-put-build κs a = rank (a .1 .1 .1 .1 .0) 0
 
 abbrev μ-put-call : Measures 2 put-call-kinds.ps ℕ
-μ-put-call κs a = 6 * a .1 .1 .1 .1 .0
+μ-put-call κs a = rank (a .1 .1 .1 .1 .0) 0
 
 abbrev μ-put-carried : Measures 2 put-carried-kinds.ps ℕ
-μ-put-carried κs a = 6 * a .1 .1 .1 .1 .0 + 1
+μ-put-carried κs a = rank (a .1 .1 .1 .1 .0) 1
 
 abbrev μ-put-carrieds : Measures 2 put-carrieds-kinds.ps ℕ
-μ-put-carrieds κs a = 6 * a .1 .1 .1 .1 .0 + 5
+μ-put-carrieds κs a = rank (a .1 .1 .1 .1 .0) 5
 
 abbrev μ-put-chain : Measures 2 put-chain-kinds.ps ℕ
-μ-put-chain κs a = 6 * a .1 .1 .1 .1 .0 + 5
+μ-put-chain κs a = rank (a .1 .1 .1 .1 .0) 5
 
 abbrev μ-put-constructor : Measures 2 put-constructor-kinds.ps ℕ
-μ-put-constructor κs a = 6 * a .1 .1 .1 .1 .0
+μ-put-constructor κs a = rank (a .1 .1 .1 .1 .0) 0
 
 abbrev μ-put-function : Measures 2 put-function-kinds.ps ℕ
-μ-put-function κs a = 6 * a .1 .1 .1 .1 .0
+μ-put-function κs a = rank (a .1 .1 .1 .1 .0) 0
 
 abbrev μ-put-handed : Measures 2 put-handed-kinds.ps ℕ
-μ-put-handed κs a = 6 * a .1 .1 .1 .1 .0 + 4
+μ-put-handed κs a = rank (a .1 .1 .1 .1 .0) 4
 
 abbrev μ-put-let : Measures 2 put-let-kinds.ps ℕ
-μ-put-let κs a = 6 * a .1 .1 .1 .1 .0
+μ-put-let κs a = rank (a .1 .1 .1 .1 .0) 0
 
 abbrev μ-put-link : Measures 2 put-link-kinds.ps ℕ
-μ-put-link κs a = 6 * a .1 .1 .1 .1 .0 + 4
+μ-put-link κs a = rank (a .1 .1 .1 .1 .0) 4
 
 abbrev μ-put-match : Measures 2 put-match-kinds.ps ℕ
-μ-put-match κs a = 6 * a .1 .1 .1 .1 .0
+μ-put-match κs a = rank (a .1 .1 .1 .1 .0) 0
 
 abbrev μ-put-passing : Measures 2 put-passing-kinds.ps ℕ
-μ-put-passing κs a = 6 * a .1 .1 .1 .1 .0 + 3
+μ-put-passing κs a = rank (a .1 .1 .1 .1 .0) 3
 
 abbrev put-arms-at : ℕ → In 2 put-arms-kinds.ps
 put-arms-at t = and 2 put-arms-kinds.ps (is 2 put-arms-kinds.ps μ-put-arms t) put-arms.Pre
