@@ -11,7 +11,7 @@ use lib.ListN.{replicate}
 use Rattle.language.specs.Term.{images, Term, size}
 use Rattle.language.specs.Words.{words}
 use Rattle.language.specs.Sub.{sub}
-use Rattle.language.specs.Run.{atom, rev, itself, took, count}
+use Rattle.language.specs.Run.{atom, enters, rev, itself, took, count}
 use Rattle.language.specs.Image.{downto, passing, image}
 use Rattle.language.specs.Kinds.{headOf}
 use Rattle.language.specs.Dead.{dead}
@@ -116,5 +116,5 @@ tests-is [] h = tt
 tests-is (c ∷ cs) h = let p = and-yes (test c) (tests cs) h in (test-is c (p .0), tests-is cs (p .1))
 
 pub worked-rules : WorkedRules
-unfolding tests read closed ended term then made second many unlike dead armsOf opened headOf written filled words image passing downto atom size sub rev itself took eval count
+unfolding tests read closed ended term then made second many unlike dead armsOf opened headOf written filled words image passing downto atom size sub enters rev itself took eval count
 worked-rules = tests-is worked tt

@@ -5,11 +5,9 @@ use Prim.Native.Nat.{ℕ, zero, suc}
 use mathlib.Core.Bool.{Bool, true, false}
 use mathlib.Core.Path.{_≡_, refl}
 use mathlib.Core.Option.{Option, some, none as nothing}
-use lib.Dec.{eqb}
-use borrow.Author.Tests.{eqb-true}
 use Rattle.language.specs.Term.{Lang, rules, images, Term, Terms, Arms, var, kvar, fun, call, bind, con, cases, nil, cons, size}
 use Rattle.language.specs.Sub.{sub}
-use Rattle.language.specs.Run.{atoms, Value, Values, v-fun, v-con, v-nil, v-cons, Enters, all, first, rev, itself, took, Run, Runs, taken, built, bound, called, matched, done, then}
+use Rattle.language.specs.Run.{atoms, Value, Values, v-fun, v-con, v-nil, v-cons, enters, rev, itself, took, Run, Runs, taken, built, bound, called, matched, done, then}
 
 -- levels enough for the run of each worked rule and of its image
 abbrev pub levels : ℕ
@@ -39,16 +37,6 @@ mutual
   values? nil = some v-nil
   values? (cons t ts) = elim (value? t) [ nothing ↦ nothing | some v ↦ elim (values? ts) [ nothing ↦ nothing | some vs ↦ some (v-cons v vs) ] ]
 
-pub record Entry (L : Lang) (vs : Terms) : Type 0 where
-  pub ks : Terms
-  pub xs : Terms
-  pub enters : Enters L vs ks xs
-
-enters? : (L : Lang) (vs : Terms) → Option (Entry L vs)
-enters? rules vs = some record { ks = nil; xs = vs; enters = all }
-enters? images nil = nothing
-enters? images (cons v vs) = some record { ks = cons v nil; xs = vs; enters = first }
-
 -- one rule at a time, where go finds the runs of parts and bodies
 module _ (L : Lang) (go : (t : Term) → Option (Ran L t)) where
   parts? : (ts : Terms) → Option (Rans L ts)
@@ -68,17 +56,17 @@ module _ (L : Lang) (go : (t : Term) → Option (Ran L t)) where
   let? m b r = elim (go (sub 0 0 nil (cons (r .value) nil) b))
       [ nothing ↦ nothing | some s ↦ some record { value = s .value; run = bound (r .run) (s .run) } ]
 
-  apply? : (f : Term) (ps vs : Terms) (o a : ℕ) (b : Term) → Run L f (fun o a b) → Runs L ps vs → (e : Entry L vs) (c : Bool) → eqb (size (e .xs)) a ≡ c
+  apply? : (f : Term) (ps vs : Terms) (o a : ℕ) (b : Term) → Run L f (fun o a b) → Runs L ps vs → (e : Option (Terms × Terms)) → enters L a vs ≡ e
       → Option (Ran L (call f ps))
-  apply? f ps vs o a b r rs e false q = nothing
-  apply? f ps vs o a b r rs e true q = elim (go (sub 0 0 (e .ks) (rev (e .xs) (itself o (fun o a b))) b))
-      [ nothing ↦ nothing | some s ↦ some record { value = s .value; run = called r rs (e .enters) (eqb-true (size (e .xs)) a q) (s .run) } ]
+  apply? f ps vs o a b r rs nothing q = nothing
+  apply? f ps vs o a b r rs (some (ks, xs)) q = elim (go (sub 0 0 ks (rev xs (itself o (fun o a b))) b))
+      [ nothing ↦ nothing | some s ↦ some record { value = s .value; run = called r rs q (s .run) } ]
 
   call? : (f : Term) (ps vs : Terms) (v : Term) → Run L f v → Runs L ps vs → Option (Ran L (call f ps))
-  unfolding apply? enters?
+  unfolding apply?
   call? f ps vs (var i) r rs = nothing
   call? f ps vs (kvar i) r rs = nothing
-  call? f ps vs (fun o a b) r rs = elim (enters? L vs) [ nothing ↦ nothing | some e ↦ apply? f ps vs o a b r rs e (eqb (size (e .xs)) a) refl ]
+  call? f ps vs (fun o a b) r rs = apply? f ps vs o a b r rs (enters L a vs) refl
   call? f ps vs (call g qs) r rs = nothing
   call? f ps vs (bind m b) r rs = nothing
   call? f ps vs (con t qs) r rs = nothing

@@ -1,14 +1,16 @@
 -- The passing form of an atom, and of a constructor that is none: document 01's two cases for a constructor, each as an equation. The carried
 -- forms of a list are as many as its terms, the variables that a chain's end names are as many as it says, and the arms of a match stay as many. Copies
--- of a value are values, as many as they are, and an arm has both the tag and the arity exactly where the numbers are the same.
+-- of a value are values, as many as they are, an arm has both the tag and the arity exactly where the numbers are the same,
+-- and arguments go in exactly where they are as many as the function has.
 -- Assumes nothing.
 use Prim.Native.Nat.{ℕ, zero, suc}
 use mathlib.Core.Path.{_≡_, refl, ap}
-use mathlib.Core.Bool.{true, false, false≢true, and-eq-true-iff}
+use mathlib.Core.Bool.{Bool, true, false, cond, false≢true, and-eq-true-iff}
+use mathlib.Core.Option.{Option, some, none as nothing, Option·some-injective, Option·none-ne-some}
 use lib.Dec.{eqb}
 use borrow.Author.Tests.{eq-eqb, eqb-true}
 use Rattle.language.specs.Term.{Term, Terms, Arms, var, kvar, fun, call, bind, con, cases, nil, cons, none, arm, size, sizeᵃ}
-use Rattle.language.specs.Run.{atom, atoms, Value, Values, v-nil, v-cons, itself, both}
+use Rattle.language.specs.Run.{atom, atoms, Value, Values, v-nil, v-cons, counted, itself, both}
 use Rattle.language.specs.Image.{lam, to, downto, making, passing, carried, carrieds, chain, passingᵃ}
 
 -- "Atom: 0201 0401 0900, then its carried form."
@@ -62,3 +64,18 @@ both-same t n = simp (eq-eqb t t refl, eq-eqb n n refl)
 
 pub same-both : (t n t' n' : ℕ) → both t n t' n' ≡ true → (t ≡ t') × (n ≡ n')
 same-both t n t' n' e = let p = and-eq-true-iff (eqb t t') (eqb n n') .0 e in (eqb-true t t' (p .0), eqb-true n n' (p .1))
+
+-- "exactly that many arguments"
+pub counted-fits : (a : ℕ) (ks xs : Terms) → size xs ≡ a → counted a ks xs ≡ some (ks, xs)
+unfolding counted
+counted-fits a ks xs e = rw (eq-eqb (size xs) a e)
+
+pub counted-is : (a : ℕ) (ks xs : Terms) {ks' xs' : Terms} → counted a ks xs ≡ some (ks', xs') → (size xs ≡ a) × (ks ≡ ks') × (xs ≡ xs')
+unfolding counted
+counted-is a ks xs {ks'} {xs'} e = go (eqb (size xs) a) refl e
+  where
+    go : (b : Bool) → eqb (size xs) a ≡ b → cond {A = Option (Terms × Terms)} b (some (ks, xs)) nothing ≡ some (ks', xs') → (size xs ≡ a) × (ks ≡ ks') × (xs ≡ xs')
+    go true q e =
+        let p = Option·some-injective (ks, xs) (ks', xs') e in
+        (eqb-true (size xs) a q, ap (λ x. x .0) p, ap (λ x. x .1) p)
+    go false q e = absurd (Option·none-ne-some (ks', xs') e)

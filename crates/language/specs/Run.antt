@@ -33,11 +33,17 @@ mutual
     v-nil : Values nil
     v-cons : {t : Term} {ts : Terms} → Value t → Values ts → Values (cons t ts)
 
--- which of the arguments go in for continuation variables, and which for source variables: "In an image the first argument of a function
--- is k_0 and the others are source variables"
-pub data Enters : Lang → Terms → Terms → Terms → Type 0 where
-  all : {vs : Terms} → Enters rules vs nil vs
-  first : {v : Term} {vs : Terms} → Enters images (cons v vs) (cons v nil) vs
+-- terms to go in for continuation variables and terms to go in for source variables, where the latter are "exactly that many", a
+unfoldable pub counted : ℕ → Terms → Terms → Option (Terms × Terms)
+counted a ks xs = cond (eqb (size xs) a) (some (ks, xs)) nothing
+
+-- what goes in where a function of a source arguments is called with the arguments vs; nothing where the arguments are not that many. "In an
+-- image the first argument of a function is k_0 and the others are source variables"
+unfoldable pub enters : Lang → ℕ → Terms → Option (Terms × Terms)
+unfolding counted
+enters rules a vs = counted a nil vs
+enters images a nil = nothing
+enters images a (cons v vs) = counted a (cons v nil) vs
 
 -- the arguments last first, before the terms acc: "x_0 is the last argument"
 unfoldable pub rev : Terms → Terms → Terms
@@ -70,7 +76,7 @@ mutual
     taken : {v : Term} → Value v → Run L v v
     built : {t : ℕ} {ps vs : Terms} → atoms ps ≡ false → Runs L ps vs → Run L (con t ps) (con t vs)
     bound : {m b v w : Term} → Run L m v → Run L (sub 0 0 nil (cons v nil) b) w → Run L (bind m b) w
-    called : {o a : ℕ} {f b w : Term} {ps vs ks xs : Terms} → Run L f (fun o a b) → Runs L ps vs → Enters L vs ks xs → size xs ≡ a
+    called : {o a : ℕ} {f b w : Term} {ps vs ks xs : Terms} → Run L f (fun o a b) → Runs L ps vs → enters L a vs ≡ some (ks, xs)
         → Run L (sub 0 0 ks (rev xs (itself o (fun o a b))) b) w → Run L (call f ps) w
     matched : {m b w : Term} {t : ℕ} {vs : Terms} {ps : Arms} → Run L m (con t vs) → took t (size vs) ps ≡ some b
         → Run L (sub 0 0 nil (rev vs nil) b) w → Run L (cases m ps) w
@@ -101,7 +107,7 @@ unfoldable mutual
   count (taken x) = uses 1 0 0 0 0
   count (built n r) = uses 0 0 0 0 1 ⊕ counts r
   count (bound r s) = uses 0 0 1 0 0 ⊕ count r ⊕ count s
-  count (called f r e n s) = uses 0 1 0 0 0 ⊕ count f ⊕ counts r ⊕ count s
+  count (called f r e s) = uses 0 1 0 0 0 ⊕ count f ⊕ counts r ⊕ count s
   count (matched r k s) = uses 0 0 0 1 0 ⊕ count r ⊕ count s
 
   pub counts : {L : Lang} {ts vs : Terms} → Runs L ts vs → Counts

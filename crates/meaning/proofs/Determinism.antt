@@ -2,11 +2,11 @@
 -- is decided by what came before. By induction on the first run. Assumes nothing.
 use Prim.Native.Nat.{ℕ}
 use mathlib.Core.Bool.{false, false≢true}
-use mathlib.Core.Option.{some}
+use mathlib.Core.Option.{some, Option·some-injective}
 use mathlib.Core.Path.{_≡_, refl, ap, ap₂, sym, _∙_, subst}
 use Rattle.language.specs.Term.{Lang, Term, Terms, Arms, fun, con, nil, cons, size}
 use Rattle.language.specs.Sub.{sub}
-use Rattle.language.specs.Run.{atoms, Values, v-fun, v-con, Enters, all, first, rev, itself, took}
+use Rattle.language.specs.Run.{atoms, Values, v-fun, v-con, enters, rev, itself, took}
 use Rattle.language.specs.Run.{Run, Runs, taken, built, bound, called, matched, done, then, uses, _⊕_, count, counts}
 use Rattle.meaning.proofs.Forms.{values-atoms}
 
@@ -14,16 +14,19 @@ use Rattle.meaning.proofs.Forms.{values-atoms}
 pub no-atoms : {vs : Terms} → Values vs → atoms vs ≡ false → ⊥
 no-atoms h e = false≢true (sym e ∙ values-atoms h)
 
-pub enters-same : {L : Lang} {vs vs' ks ks' xs xs' : Terms} → Enters L vs ks xs → Enters L vs' ks' xs' → vs ≡ vs' → (ks ≡ ks') × (xs ≡ xs')
-enters-same all all e = (refl, e)
-enters-same first first e = (cc, cc)
-
 -- the bodies that two calls, or two matches, go on with
-call-same : {L : Lang} {vs vs' ks ks' xs xs' : Terms} {b b' : Term} {o o' a a' : ℕ} → Enters L vs ks xs → Enters L vs' ks' xs'
+pub call-same : (L : Lang) {vs vs' ks ks' xs xs' : Terms} {b b' : Term} {o o' a a' : ℕ} → enters L a vs ≡ some (ks, xs) → enters L a' vs' ≡ some (ks', xs')
     → fun o a b ≡ fun o' a' b' → vs ≡ vs' → sub 0 0 ks (rev xs (itself o (fun o a b))) b ≡ sub 0 0 ks' (rev xs' (itself o' (fun o' a' b'))) b'
-call-same {b} {b'} {o} {o'} e e' p q = let (r, r') = enters-same e e' q in let y : o ≡ o' = cc in let z : b ≡ b' = cc in cc
+call-same L {ks} {ks'} {xs} {xs'} {b} {b'} {o} {o'} {a} {a'} e e' p q =
+    let y : o ≡ o' = cc in
+    let z : b ≡ b' = cc in
+    let x : a ≡ a' = cc in
+    let same = Option·some-injective (ks, xs) (ks', xs') (sym e ∙ ap₂ (enters L) x q ∙ e') in
+    let k : ks ≡ ks' = ap (λ g. g .0) same in
+    let l : xs ≡ xs' = ap (λ g. g .1) same in
+    cc
 
-match-same : {vs vs' : Terms} {b b' : Term} {t t' : ℕ} (ps : Arms) → took t (size vs) ps ≡ some b → took t' (size vs') ps ≡ some b'
+pub match-same : {vs vs' : Terms} {b b' : Term} {t t' : ℕ} (ps : Arms) → took t (size vs) ps ≡ some b → took t' (size vs') ps ≡ some b'
     → con t vs ≡ con t' vs' → sub 0 0 nil (rev vs nil) b ≡ sub 0 0 nil (rev vs' nil) b'
 match-same {vs} {vs'} {t} {t'} ps k k' p = let x : t ≡ t' = cc in let y : vs ≡ vs' = cc in cc
 
@@ -48,10 +51,10 @@ mutual
       let (p, q) = same-run r r' in
       let (p', q') = along s (ap (λ x. sub 0 0 nil (cons x nil) b) p) (λ x. same-run s x) s' in
       (p', λ i. uses 0 0 1 0 0 ⊕ q i ⊕ q' i)
-  same-run (called f r e n s) (called f' r' e' n' s') =
+  same-run {L} (called f r e s) (called f' r' e' s') =
       let (p, q) = same-run f f' in
       let (p', q') = same-runs r r' in
-      let (p″, q″) = along s (call-same e e' p p') (λ x. same-run s x) s' in
+      let (p″, q″) = along s (call-same L e e' p p') (λ x. same-run s x) s' in
       (p″, λ i. uses 0 1 0 0 0 ⊕ q i ⊕ q' i ⊕ q″ i)
   same-run (matched {ps} r k s) (matched r' k' s') =
       let (p, q) = same-run r r' in

@@ -9,10 +9,10 @@ use native.Mathlib.Omega.{arith}
 use Rattle.language.specs.Term.{rules, images, Term, Terms, Arms, kvar, fun, call, bind, con, cases, nil, cons, size}
 use Rattle.language.specs.Scope.{Scoped, Scopedᵗ, Scopedᵃ, s-fun, s-call, s-bind, s-con, s-cases, s-nil, s-cons}
 use Rattle.language.specs.Sub.{sub}
-use Rattle.language.specs.Run.{atoms, Value, Values, v-fun, all, rev, itself, took, Counts, uses, _⊕_, count, counts}
+use Rattle.language.specs.Run.{atoms, Value, Values, v-fun, enters, rev, itself, took, Counts, uses, _⊕_, count, counts}
 use Rattle.language.specs.Run.{Run, Runs, taken, built, bound, called, matched, done, then}
 use Rattle.language.specs.Image.{lam, to, calling, making, passing, carried, carrieds, chain, passingᵃ, image}
-use Rattle.language.proofs.Forms.{passing-build}
+use Rattle.language.proofs.Forms.{passing-build, counted-is}
 use Rattle.meaning.specs.Promises.{applications, Comes}
 use Rattle.meaning.proofs.Scopes.{sub-scoped}
 use Rattle.meaning.proofs.Compose.{join, sub-twice}
@@ -20,20 +20,18 @@ use Rattle.meaning.proofs.Forms.{letting, matching, k-scoped, calling-s
 use Rattle.meaning.proofs.Forms.{carried-value, carried-scoped, passing-scoped, passingᵃ-scoped, chain-scoped}
 use Rattle.meaning.proofs.Values.{run-value, runs-values, runs-size, in-con, in-values}
 use Rattle.meaning.proofs.Values.{let-scoped, arm-scoped, call-scoped, run-scoped, runs-scoped}
-use Rattle.meaning.proofs.Steps.{comes, adjust, stay, enter, on-value, end-built, end-called, end-bound, end-matched}
+use Rattle.meaning.proofs.Steps.{Leads, onward, recount, stays, adjust, stay, enter, on-value, end-built, end-called, end-bound, end-matched}
 
--- the image of a run of t to v with the counts c: whatever the continuation `lam p` comes to when it is given v's carried form, t's passing
--- form comes to when it is given the continuation
+-- the image of a run of t to v with the counts c: t's passing form, given a continuation `lam p`, goes on as what the continuation is when it is
+-- given v's carried form
 pub record Simulated (t v : Term) (c : Counts) : Type 0 where
-  pub given : (p w : Term) (n l m : ℕ) → Scoped images 1 0 p → Comes (sub 0 0 (cons (carried v) nil) nil p) w n l m
-      → Comes (to (passing t) (lam p)) w (n + applications c) (l + c .lets) (m + c .matches)
+  pub given : (p : Term) → Scoped images 1 0 p
+      → Leads (to (passing t) (lam p)) (sub 0 0 (cons (carried v) nil) nil p) (applications c) (c .lets) (c .matches)
 
--- the image of runs of ts to vs: whatever the ending z comes to when the values' carried forms are in for its first continuation variables,
--- the chain over ts comes to
+-- the image of runs of ts to vs: the chain over ts goes on as its ending z, with the values' carried forms in for z's first continuation variables
 pub record Simulatedᵗ (ts vs : Terms) (c : Counts) : Type 0 where
-  pub given : (ks : Terms) (z w : Term) (i n l m : ℕ) → Scopedᵗ images 0 0 ks → Scoped images i 0 z → i ≤ size ts + size ks
-      → Comes (sub 0 0 (rev (carrieds vs) ks) nil z) w n l m
-      → Comes (sub 0 0 ks nil (chain ts z)) w (n + applications c) (l + c .lets) (m + c .matches)
+  pub given : (ks : Terms) (z : Term) (i : ℕ) → Scopedᵗ images 0 0 ks → Scoped images i 0 z → i ≤ size ts + size ks
+      → Leads (sub 0 0 ks nil (chain ts z)) (sub 0 0 (rev (carrieds vs) ks) nil z) (applications c) (c .lets) (c .matches)
 
 -- the continuation that a chain hands to its first term names nothing but that term's value
 pub chain-k : {ks ts : Terms} {z : Term} {i : ℕ} → Scopedᵗ images 0 0 ks → Scopedᵗ rules 0 0 ts → Scoped images i 0 z → i ≤ suc (size ts) + size ks
@@ -47,51 +45,57 @@ pub chain-next : (v z : Term) (ts : Terms) {ks : Terms} → Scopedᵗ images 0 0
 unfolding join size
 chain-next v z ts hk = sub-twice (cons v nil) nil hk s-nil (chain ts z) 0 0 1 0 refl refl
 
+-- the first term of a chain
+pub chain-step : {t v : Term} {ts ks : Terms} {c : Counts} {z : Term} {i : ℕ} → Scoped rules 0 0 t → Scopedᵗ rules 0 0 ts → Simulated t v c
+    → Scopedᵗ images 0 0 ks → Scoped images i 0 z → i ≤ suc (size ts) + size ks
+    → Leads (sub 0 0 ks nil (chain (cons t ts) z)) (sub 0 0 (cons (carried v) ks) nil (chain ts z)) (applications c) (c .lets) (c .matches)
+unfolding chain sub
+chain-step {v} {ts} {ks} {z} ht hs s hk hz h =
+    rw (stay ht ks nil 0 0 (omega arith), ← (chain-next (carried v) z ts hk)) (s .given (sub 1 0 ks nil (chain ts z)) (chain-k hk hs hz h))
+
 -- no terms, and one before others
 sim-done : Simulatedᵗ nil nil (uses 0 0 0 0 0)
 unfolding chain rev carrieds
-sim-done = record { given = λ ks z w i n l m hk hz h k. adjust k (omega arith) }
+sim-done = record { given = λ ks z i hk hz h. stays (sub 0 0 ks nil z) }
 
 sim-then : {t v : Term} {ts vs : Terms} {c d : Counts} → Scoped rules 0 0 t → Scopedᵗ rules 0 0 ts → Scoped rules 0 0 v
     → Simulated t v c → Simulatedᵗ ts vs d → Simulatedᵗ (cons t ts) (cons v vs) (c ⊕ d)
-unfolding chain rev carrieds sub size
-sim-then {v} {ts} ht hs hv s ss = record {
-  given = λ ks z w i n l m hk hz h k.
-      let rest = ss .given (cons (carried v) ks) z w i n l m (s-cons (carried-scoped hv 0 0 (omega arith)) hk) hz (omega arith) k in
-      let next = rw (← (chain-next (carried v) z ts hk)) at rest in
-      rw (stay ht ks nil 0 0 (omega arith))
-      (adjust (s .given (sub 1 0 ks nil (chain ts z)) w _ _ _ (chain-k hk hs hz (omega arith)) next) (omega arith));
+unfolding rev carrieds size
+sim-then {v} ht hs hv s ss = record {
+  given = λ ks z i hk hz h.
+      recount (onward (chain-step ht hs s hk hz (omega arith))
+      (ss .given (cons (carried v) ks) z i (s-cons (carried-scoped hv 0 0 (omega arith)) hk) hz (omega arith))) (omega arith);
 }
 
 -- a term whose passing form is the chain over its parts with the ending z: the passing form is given the continuation, the parts come to
--- values, and the ending runs
-through : (t z : Term) {ts vs : Terms} {c : Counts} {p w : Term} {i n l m : ℕ} → passing t ≡ lam (chain ts z) → Simulatedᵗ ts vs c
-    → Scoped images i 0 z → i ≤ suc (size ts) → Scoped images 1 0 p → Comes (sub 0 0 (rev (carrieds vs) (cons (lam p) nil)) nil z) w n l m
-    → Comes (to (passing t) (lam p)) w (suc (n + applications c)) (l + c .lets) (m + c .matches)
+-- values, and the ending is left
+pub through : (t z : Term) {ts vs : Terms} {c : Counts} {p : Term} {i : ℕ} → passing t ≡ lam (chain ts z) → Simulatedᵗ ts vs c
+    → Scoped images i 0 z → i ≤ suc (size ts) → Scoped images 1 0 p
+    → Leads (to (passing t) (lam p)) (sub 0 0 (rev (carrieds vs) (cons (lam p) nil)) nil z) (suc (applications c)) (c .lets) (c .matches)
 unfolding size
-through t z {p} {w} {i} {n} {l} {m} e ss hz h hp k =
-    rw e (enter v-fun (ss .given (cons (lam p) nil) z w i n l m (s-cons (s-fun hp) s-nil) hz (omega arith) k))
+through t z {p} {i} e ss hz h hp =
+    rw e (recount (onward (enter v-fun) (ss .given (cons (lam p) nil) z i (s-cons (s-fun hp) s-nil) hz (omega arith))) (omega arith))
 
 -- the rules of the relation, one by one
 sim-taken : {v : Term} → Value v → Scoped rules 0 0 v → Simulated v v (uses 1 0 0 0 0)
-sim-taken x h = record { given = λ p w n l m hp k. adjust (on-value x h k) (omega arith) }
+sim-taken x h = record { given = λ p hp. on-value x h }
 
 sim-built : {t : ℕ} {ps vs : Terms} {c : Counts} → atoms ps ≡ false → size vs ≡ size ps → Values vs
     → Simulatedᵗ ps vs c → Simulated (con t ps) (con t vs) (uses 0 0 0 0 1 ⊕ c)
 sim-built {t} {ps} {vs} e q vv ss = record {
-  given = λ p w n l m hp k.
-      adjust (through (con t ps) (making t (size ps)) (passing-build t ps e) ss (making-scoped t (size ps)) (omega arith) hp
-      (end-built p t vs q vv k)) (omega arith);
+  given = λ p hp.
+      recount (onward (through (con t ps) (making t (size ps)) (passing-build t ps e) ss (making-scoped t (size ps)) (omega arith) hp)
+      (end-built p t vs q vv)) (omega arith);
 }
 
 sim-bound : {m b v w : Term} {c d : Counts} → Scoped rules 0 0 m → Scoped rules 0 1 b → Scoped rules 0 0 v → Value v
     → Simulated m v c → Simulated (sub 0 0 nil (cons v nil) b) w d → Simulated (bind m b) w (uses 0 0 1 0 0 ⊕ c ⊕ d)
 unfolding passing rev carrieds size
 sim-bound {m} {b} hm hb hv x s s' = record {
-  given = λ p w n l k hp r.
-      adjust (through (bind m b) (letting (passing b)) refl (sim-then hm s-nil hv s sim-done)
-      (letting-scoped 0 0 (passing-scoped hb 2 1 (omega arith))) (omega arith) hp
-      (end-bound x hb (s-fun hp) (s' .given p w n l k hp r))) (omega arith);
+  given = λ p hp.
+      recount (onward (onward (through (bind m b) (letting (passing b)) refl (sim-then hm s-nil hv s sim-done)
+      (letting-scoped 0 0 (passing-scoped hb 2 1 (omega arith))) (omega arith) hp)
+      (end-bound x hb (s-fun hp))) (s' .given p hp)) (omega arith);
 }
 
 sim-called : {f b w : Term} {o a : ℕ} {ps vs : Terms} {c d e : Counts} → Scoped rules 0 0 f → Scopedᵗ rules 0 0 ps → Scoped rules 0 0 (fun o a b)
@@ -99,9 +103,9 @@ sim-called : {f b w : Term} {o a : ℕ} {ps vs : Terms} {c d e : Counts} → Sco
     → Simulated (sub 0 0 nil (rev vs (itself o (fun o a b))) b) w e → Simulated (call f ps) w (uses 0 1 0 0 0 ⊕ c ⊕ d ⊕ e)
 unfolding passing rev carrieds size
 sim-called {f} {ps} {vs} hf hs hb vv q q' s ss s' = record {
-  given = λ p w n l m hp k.
-      adjust (through (call f ps) (calling (size ps)) refl (sim-then hf hs hb s ss) (calling-scoped (size ps)) (omega arith) hp
-      (end-called vs q q' v-fun vv hb (s' .given p w n l m hp k))) (omega arith);
+  given = λ p hp.
+      recount (onward (onward (through (call f ps) (calling (size ps)) refl (sim-then hf hs hb s ss) (calling-scoped (size ps)) (omega arith) hp)
+      (end-called vs q q' v-fun vv hb)) (s' .given p hp)) (omega arith);
 }
 
 sim-matched : {m b w : Term} {t : ℕ} {vs : Terms} {ps : Arms} {c d : Counts} → Scoped rules 0 0 m → Scopedᵃ rules 0 0 ps → Scoped rules 0 0 (con t vs)
@@ -109,14 +113,14 @@ sim-matched : {m b w : Term} {t : ℕ} {vs : Terms} {ps : Arms} {c d : Counts} �
     → Simulated (cases m ps) w (uses 0 0 0 1 0 ⊕ c ⊕ d)
 unfolding passing rev carrieds size
 sim-matched {m} {t} {vs} {ps} hm hs hv vv y s s' = record {
-  given = λ p w n l k hp r.
-      adjust (through (cases m ps) (matching (passingᵃ ps)) refl (sim-then hm s-nil hv s sim-done)
-      (matching-scoped 0 0 (passingᵃ-scoped hs 0 0 (omega arith))) (omega arith) hp
-      (end-matched t vs ps y vv hs (s-fun hp) (s' .given p w n l k hp r))) (omega arith);
+  given = λ p hp.
+      recount (onward (onward (through (cases m ps) (matching (passingᵃ ps)) refl (sim-then hm s-nil hv s sim-done)
+      (matching-scoped 0 0 (passingᵃ-scoped hs 0 0 (omega arith))) (omega arith) hp)
+      (end-matched t vs ps y vv hs (s-fun hp))) (s' .given p hp)) (omega arith);
 }
 
 mutual
-  unfolding count
+  unfolding count enters
 
   pub simulated : {t v : Term} (r : Run rules t v) → Scoped rules 0 0 t → Simulated t v (count r)
   simulated (taken x) h = sim-taken x h
@@ -124,9 +128,11 @@ mutual
   simulated (bound r s) (s-bind hm hb) =
       let hv = run-scoped r hm in
       sim-bound hm hb hv (run-value r) (simulated r hm) (simulated s (let-scoped hb hv))
-  simulated (called f r all n s) (s-call hf hs) =
+  simulated {v} (called {o} {a} {b} {vs} f r e s) (s-call hf hs) =
       let hb = run-scoped f hf in
-      sim-called hf hs hb (runs-values r) (runs-size r) n (simulated f hf) (simulatedᵗ r hs) (simulated s (call-scoped hb (runs-scoped r hs) all n))
+      let (n, k, x) = counted-is a nil vs e in
+      sim-called hf hs hb (runs-values r) (runs-size r) n (simulated f hf) (simulatedᵗ r hs)
+      (rw (k, x) (simulated s (call-scoped hb (runs-scoped r hs) e)))
   simulated (matched r k s) (s-cases hm hs) =
       let hv = run-scoped r hm in
       sim-matched hm hs hv (in-values (run-value r)) k (simulated r hm) (simulated s (arm-scoped k hs hv))
@@ -140,5 +146,4 @@ pub image-comes : {t v : Term} (r : Run rules t v) → Scoped rules 0 0 t
     → Comes (image t) (carried v) (applications (count r)) ((count r) .lets) ((count r) .matches)
 unfolding image sub count
 image-comes {v} r h =
-    let last : Comes (carried v) (carried v) 0 0 0 = comes (taken (carried-value (run-value r))) (refl, refl, refl) in
-    adjust ((simulated r h) .given (kvar 0) (carried v) 0 0 0 (k-scoped 0 1 0 (omega arith)) last) (omega arith)
+    adjust ((simulated r h) .given (kvar 0) (k-scoped 0 1 0 (omega arith)) .ahead (carried v) (taken (carried-value (run-value r)))) (omega arith)

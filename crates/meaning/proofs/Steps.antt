@@ -1,21 +1,23 @@
 -- The steps that an image makes: a passing form is given its continuation, and a chain's ending runs once the chain's terms have come to
--- values. Each step says how many calls, lets and matches it adds. Assumes nothing.
+-- values. Each step says how many calls, lets and matches it makes, and is read both ways: what the later term comes to, the earlier one comes to
+-- as well; and the other way round. Assumes nothing.
 use Prim.Native.Nat.{ℕ, suc, _+_, _≤_}
 use mathlib.Core.Bool.{Bool, true, false, cond}
 use mathlib.Core.Option.{some, Option·map}
-use mathlib.Core.Path.{_≡_, refl, ap, ap₂}
+use mathlib.Core.Path.{_≡_, refl, ap, ap₂, _∙_, subst}
 use native.Mathlib.Omega.{arith}
-use Rattle.language.specs.Term.{Lang, rules, images, Term, Terms, Arms, kvar, fun, call, con, nil, cons, size}
+use Rattle.language.specs.Term.{Lang, rules, images, Term, Terms, Arms, kvar, fun, call, bind, con, cases, nil, cons, size}
 use Rattle.language.specs.Scope.{Scoped, Scopedᵃ, s-none, s-arm}
 use Rattle.language.specs.Sub.{look, sub, subᵗ, subᵃ}
-use Rattle.language.specs.Run.{Value, Values, v-fun, v-con, v-nil, v-cons, first, rev, itself, both, took}
+use Rattle.language.specs.Run.{Value, Values, v-fun, v-con, v-nil, v-cons, enters, rev, itself, both, took}
 use Rattle.language.specs.Run.{Run, Runs, taken, bound, called, matched, done, then, Counts, count, counts}
 use Rattle.language.specs.Image.{lam, to, downto, calling, making, passing, carried, carrieds, passingᵃ}
-use Rattle.language.proofs.Forms.{size-carrieds, passing-atom, itself-values}
+use Rattle.language.proofs.Forms.{size-carrieds, passing-atom, itself-values, counted-fits}
 use Rattle.meaning.specs.Promises.{Comes}
 use Rattle.meaning.proofs.Scopes.{keep}
 use Rattle.meaning.proofs.Forms.{value-atom, carried-value, carrieds-values, carried-scoped, passing-scoped, letting, matching}
 use Rattle.meaning.proofs.Commute.{passing-sub}
+use Rattle.meaning.proofs.Determinism.{call-same, match-same, same-run, same-runs}
 use Rattle.meaning.proofs.Values.{rev-values, carrieds-rev, carrieds-itself, in-fun, in-arms}
 
 -- so many calls, lets and matches
@@ -38,16 +40,66 @@ unfolding taken-all count
 taken-free L v-nil = (refl, refl, refl)
 taken-free L (v-cons v vs) = omega (arith, taken-free L vs)
 
--- a function is called with a continuation and values
-pub apply : {o a : ℕ} {b k w : Term} {ws : Terms} {n l m : ℕ} → Value k → Values ws → size ws ≡ a
-    → Comes (sub 0 0 (cons k nil) (rev ws (itself o (fun o a b))) b) w n l m → Comes (call (fun o a b) (cons k ws)) w (suc n) l m
+-- `Leads t t' n l m`: the image t goes on as the image t', by n calls, l lets and m matches.
+-- ahead: what t' comes to, t comes to, by so many more. back: what t comes to, t' comes to
+pub record Leads (t t' : Term) (n l m : ℕ) : Type 0 where
+  pub ahead : (w : Term) (s : Run images t' w) → Comes t w (n + (count s) .calls) (l + (count s) .lets) (m + (count s) .matches)
+  pub back : (w : Term) → Run images t w → Run images t' w
+
+-- one step after another
+pub onward : {t t' t″ : Term} {n l m n' l' m' : ℕ} → Leads t t' n l m → Leads t' t″ n' l' m' → Leads t t″ (n + n') (l + l') (m + m')
+onward p q = record {
+  ahead = λ w s. let r = q .ahead w s in adjust (p .ahead w (r .run)) (omega (arith, r .in-calls, r .in-lets, r .in-matches));
+  back = λ w r. q .back w (p .back w r);
+}
+
+pub recount : {t t' : Term} {n l m n' l' m' : ℕ} → Leads t t' n l m → (n ≡ n') × (l ≡ l') × (m ≡ m') → Leads t t' n' l' m'
+recount p e = record { ahead = λ w s. adjust (p .ahead w s) (omega arith); back = p .back }
+
+-- no step
+pub stays : (t : Term) → Leads t t 0 0 0
+stays t = record { ahead = λ w s. comes s (omega arith); back = λ w r. r }
+
+-- the run that goes on has so many calls fewer
+pub fewer : {t t' w : Term} {n l m : ℕ} (p : Leads t t' n l m) (r : Run images t w) → (count r) .calls ≡ n + (count (p .back w r)) .calls
+fewer {w} p r =
+    let s = p .ahead w (p .back w r) in
+    ap (λ c. c .calls) (same-run r (s .run) .1) ∙ s .in-calls
+
+-- the rules of the relation, where all that is to come to a value is one already: a function is called with a continuation and values
+pub applying : {o a : ℕ} {b k : Term} {ws : Terms} → Value k → Values ws → size ws ≡ a
+    → Leads (call (fun o a b) (cons k ws)) (sub 0 0 (cons k nil) (rev ws (itself o (fun o a b))) b) 1 0 0
+unfolding enters count
+applying {o} {a} {b} {k} {ws} kv wv e = record {
+  ahead = λ w s. comes (called (taken v-fun) (then (taken kv) (taken-all wv)) (counted-fits a (cons k nil) ws e) s) (omega (arith, taken-free images wv));
+  back = λ w r. undo r;
+}
+  where
+    undo : {w : Term} → Run images (call (fun o a b) (cons k ws)) w → Run images (sub 0 0 (cons k nil) (rev ws (itself o (fun o a b))) b) w
+    undo {w} (called f r q s) =
+        subst (λ x. Run images x w)
+        (call-same images q (counted-fits a (cons k nil) ws e) (same-run f (taken v-fun) .0) (same-runs r (then (taken kv) (taken-all wv)) .0)) s
+
+-- a value is bound
+binding : {v b : Term} → Value v → Leads (bind v b) (sub 0 0 nil (cons v nil) b) 0 1 0
 unfolding count
-apply kv wv e r = comes (called (taken v-fun) (then (taken kv) (taken-all wv)) first e (r .run)) (omega (arith, taken-free images wv))
+binding {v} {b} x = record { ahead = λ w s. comes (bound (taken x) s) (refl, refl, refl); back = λ w r. undo r }
+  where
+    undo : {w : Term} → Run images (bind v b) w → Run images (sub 0 0 nil (cons v nil) b) w
+    undo {w} (bound r s) = subst (λ x. Run images (sub 0 0 nil (cons x nil) b) w) (same-run r (taken x) .0) s
+
+-- a constructor value takes an arm
+taking : {t : ℕ} {b : Term} {vs : Terms} {ps : Arms} → Values vs → took t (size vs) ps ≡ some b → Leads (cases (con t vs) ps) (sub 0 0 nil (rev vs nil) b) 0 0 1
+unfolding count
+taking {t} {b} {vs} {ps} vv y = record { ahead = λ w s. comes (matched (taken (v-con vv)) y s) (refl, refl, refl); back = λ w r. undo r }
+  where
+    undo : {w : Term} → Run images (cases (con t vs) ps) w → Run images (sub 0 0 nil (rev vs nil) b) w
+    undo {w} (matched r k s) = subst (λ x. Run images x w) (match-same ps k y (same-run r (taken (v-con vv)) .0)) s
 
 -- a function that wants only a continuation is given it
-pub enter : {b k w : Term} {n l m : ℕ} → Value k → Comes (sub 0 0 (cons k nil) nil b) w n l m → Comes (to (lam b) k) w (suc n) l m
+pub enter : {b k : Term} → Value k → Leads (to (lam b) k) (sub 0 0 (cons k nil) nil b) 1 0 0
 unfolding size rev itself
-enter kv r = apply {ws = nil} kv v-nil refl r
+enter kv = applying {ws = nil} kv v-nil refl
 
 -- what is closed stays as it is; so does the passing form of a term that names no variable put in for
 pub shut : {t : Term} → Scoped images 0 0 t → (ks xs : Terms) (dk dx : ℕ) → sub dk dx ks xs t ≡ t
@@ -62,12 +114,12 @@ pub put-in : {b : Term} {c d : ℕ} {xs acc : Terms} (ks : Terms) → Values xs 
 put-in {xs} {acc} ks xv av hb = rw (← (carrieds-rev xs acc)) (passing-sub ks (rev xs acc) (rev-values xv av) hb 0 0 0 0 refl)
 
 -- a value: its passing form is given the continuation `lam p`, which is given its carried form
-pub on-value : {v p w : Term} {n l m : ℕ} → Value v → Scoped rules 0 0 v → Comes (sub 0 0 (cons (carried v) nil) nil p) w n l m
-    → Comes (to (passing v) (lam p)) w (suc (suc n)) l m
+pub on-value : {v p : Term} → Value v → Scoped rules 0 0 v → Leads (to (passing v) (lam p)) (sub 0 0 (cons (carried v) nil) nil p) 2 0 0
 unfolding sub
-on-value {v} {p} x h r =
-    rw (passing-atom v (value-atom x))
-    (enter v-fun (rw (shut (carried-scoped h 0 0 (omega arith)) (cons (lam p) nil) nil 0 0) (enter (carried-value x) r)))
+on-value {v} {p} x h =
+    let handed : Leads (to (lam p) (sub 0 0 (cons (lam p) nil) nil (carried v))) (sub 0 0 (cons (carried v) nil) nil p) 1 0 0
+    = rw (shut (carried-scoped h 0 0 (omega arith)) (cons (lam p) nil) nil 0 0) (enter (carried-value x)) in
+    rw (passing-atom v (value-atom x)) (onward (enter v-fun) handed)
 
 -- of terms put in last first, before acc: those past ws are acc's; and k_(n-1) down to k_0 are the n terms ws in their order
 look-rev : (ws acc : Terms) (i j : ℕ) (e : Term) → i ≡ size ws + j → look 0 (rev ws acc) i e ≡ look 0 acc j e
@@ -92,34 +144,34 @@ unfolding sub
 making-sub t ws k = ap₂ (λ x y. to x (con t y)) (look-rev ws (cons k nil) (size ws) 0 (kvar (size ws)) (omega arith)) (downto-sub ws (cons k nil))
 
 -- the ending of a constructor: the continuation is given the constructor of the values
-pub end-built : (p : Term) (t : ℕ) (vs : Terms) {w : Term} {i n l m : ℕ} → size vs ≡ i → Values vs
-    → Comes (sub 0 0 (cons (carried (con t vs)) nil) nil p) w n l m
-    → Comes (sub 0 0 (rev (carrieds vs) (cons (lam p) nil)) nil (making t i)) w (suc n) l m
+pub end-built : (p : Term) (t : ℕ) (vs : Terms) {i : ℕ} → size vs ≡ i → Values vs
+    → Leads (sub 0 0 (rev (carrieds vs) (cons (lam p) nil)) nil (making t i)) (sub 0 0 (cons (carried (con t vs)) nil) nil p) 1 0 0
 unfolding carried
-end-built p t vs e vv r = rw (← e, ← (size-carrieds vs), making-sub t (carrieds vs) (lam p)) (enter (v-con (carrieds-values vv)) r)
+end-built p t vs e vv = rw (← e, ← (size-carrieds vs), making-sub t (carrieds vs) (lam p)) (enter (v-con (carrieds-values vv)))
 
 -- the ending of a call: the function is given the continuation and the values
-pub end-called : {o a i : ℕ} {b k w : Term} (vs : Terms) {n l m : ℕ} → size vs ≡ i → size vs ≡ a → Value k → Values vs → Scoped rules 0 0 (fun o a b)
-    → Comes (to (passing (sub 0 0 nil (rev vs (itself o (fun o a b))) b)) k) w n l m
-    → Comes (sub 0 0 (rev (carrieds vs) (cons (carried (fun o a b)) (cons k nil))) nil (calling i)) w (suc n) l m
+pub end-called : {o a i : ℕ} {b k : Term} (vs : Terms) → size vs ≡ i → size vs ≡ a → Value k → Values vs → Scoped rules 0 0 (fun o a b)
+    → Leads (sub 0 0 (rev (carrieds vs) (cons (carried (fun o a b)) (cons k nil))) nil (calling i))
+    (to (passing (sub 0 0 nil (rev vs (itself o (fun o a b))) b)) k) 1 0 0
 unfolding carried sub
-end-called {o} {a} {b} {k} {w} vs {n} {l} {m} e e' kv vv hf r =
+end-called {o} {a} {b} {k} vs e e' kv vv hf =
     let fits : size (carrieds vs) ≡ a = rw (size-carrieds vs) e' in
     let names : Values (itself o (fun o a b)) = itself-values o v-fun in
-    let inside : Comes (sub 0 0 (cons k nil) (rev (carrieds vs) (itself o (carried (fun o a b)))) (to (passing b) (kvar 0))) w n l m
-    = rw (← (carrieds-itself o (fun o a b)), put-in (cons k nil) vv names (in-fun hf)) r in
-    rw (← e, ← (size-carrieds vs), calling-sub (carrieds vs) (carried (fun o a b)) k) (apply kv (carrieds-values vv) fits inside)
+    let inside : sub 0 0 (cons k nil) (rev (carrieds vs) (itself o (carried (fun o a b)))) (to (passing b) (kvar 0))
+    ≡ to (passing (sub 0 0 nil (rev vs (itself o (fun o a b))) b)) k
+    = rw (← (carrieds-itself o (fun o a b)), put-in (cons k nil) vv names (in-fun hf)) refl in
+    rw (← e, ← (size-carrieds vs), calling-sub (carrieds vs) (carried (fun o a b)) k)
+    (subst (λ x. Leads (call (carried (fun o a b)) (cons k (carrieds vs))) x 1 0 0) inside (applying kv (carrieds-values vv) fits))
 
 -- the ending of a let: the value goes in for x_0 of the body's passing form
-pub end-bound : {v b k w : Term} {n l m : ℕ} → Value v → Scoped rules 0 1 b → Scoped images 0 0 k
-    → Comes (to (passing (sub 0 0 nil (cons v nil) b)) k) w n l m
-    → Comes (sub 0 0 (cons (carried v) (cons k nil)) nil (letting (passing b))) w n (suc l) m
-unfolding sub carrieds rev count
-end-bound {v} {b} {k} {w} {n} {l} {m} x hb hk r =
-    let inside : Comes (sub 0 0 nil (cons (carried v) nil) (to (passing b) k)) w n l m
-    = rw (put-in {xs = cons v nil} {acc = nil} nil (v-cons x v-nil) v-nil hb, shut hk nil (cons (carried v) nil) 0 0) r in
+pub end-bound : {v b k : Term} → Value v → Scoped rules 0 1 b → Scoped images 0 0 k
+    → Leads (sub 0 0 (cons (carried v) (cons k nil)) nil (letting (passing b))) (to (passing (sub 0 0 nil (cons v nil) b)) k) 0 1 0
+unfolding sub carrieds rev
+end-bound {v} {b} {k} x hb hk =
+    let inside : sub 0 0 nil (cons (carried v) nil) (to (passing b) k) ≡ to (passing (sub 0 0 nil (cons v nil) b)) k
+    = rw (put-in {xs = cons v nil} {acc = nil} nil (v-cons x v-nil) v-nil hb, shut hk nil (cons (carried v) nil) 0 0) refl in
     rw (stay hb (cons (carried v) (cons k nil)) nil 0 1 (omega arith))
-    (comes (bound (taken (carried-value x)) (inside .run)) (omega arith))
+    (subst (λ y. Leads (bind (carried v) (to (passing b) k)) y 0 1 0) inside (binding (carried-value x)))
 
 -- the image takes the arm that the rule takes, and none where the rule takes none
 pub took-image : (v k : Term) (t n : ℕ) {ps : Arms} → Scopedᵃ rules 0 0 ps
@@ -135,14 +187,13 @@ took-image v k t n (s-arm {t = t'} {n = n'} {b} {ps} hb hs) =
     either false = refl
 
 -- the ending of a match: the constructor's arguments go in for the variables of the arm's passing form
-pub end-matched : (t : ℕ) {b k w : Term} (vs : Terms) (ps : Arms) {n l m : ℕ} → took t (size vs) ps ≡ some b → Values vs → Scopedᵃ rules 0 0 ps
-    → Scoped images 0 0 k → Comes (to (passing (sub 0 0 nil (rev vs nil) b)) k) w n l m
-    → Comes (sub 0 0 (cons (carried (con t vs)) (cons k nil)) nil (matching (passingᵃ ps))) w n l (suc m)
-unfolding sub carried count
-end-matched t {b} {k} {w} vs ps {n} {l} {m} y vv hs hk r =
-    let inside : Comes (sub 0 0 nil (rev (carrieds vs) nil) (to (passing b) k)) w n l m
-    = rw (put-in nil vv v-nil (in-arms t (size vs) y hs), shut hk nil (rev (carrieds vs) nil) 0 0) r in
+pub end-matched : (t : ℕ) {b k : Term} (vs : Terms) (ps : Arms) → took t (size vs) ps ≡ some b → Values vs → Scopedᵃ rules 0 0 ps → Scoped images 0 0 k
+    → Leads (sub 0 0 (cons (carried (con t vs)) (cons k nil)) nil (matching (passingᵃ ps))) (to (passing (sub 0 0 nil (rev vs nil) b)) k) 0 0 1
+unfolding sub carried
+end-matched t {b} {k} vs ps y vv hs hk =
+    let inside : sub 0 0 nil (rev (carrieds vs) nil) (to (passing b) k) ≡ to (passing (sub 0 0 nil (rev vs nil) b)) k
+    = rw (put-in nil vv v-nil (in-arms t (size vs) y hs), shut hk nil (rev (carrieds vs) nil) 0 0) refl in
     let arms = subᵃ 0 0 (cons (con t (carrieds vs)) (cons k nil)) nil (passingᵃ ps) in
     let arm : took t (size (carrieds vs)) arms ≡ some (to (passing b) k)
     = rw (size-carrieds vs, took-image (con t (carrieds vs)) k t (size vs) hs, y) refl in
-    comes (matched (taken (v-con (carrieds-values vv))) arm (inside .run)) (omega arith)
+    subst (λ x. Leads (cases (con t (carrieds vs)) arms) x 0 0 1) inside (taking (carrieds-values vv) arm)

@@ -4,13 +4,13 @@ use mathlib.Core.Path.{_≡_, refl, ap}
 use mathlib.Core.Bool.{Bool, true, false, cond}
 use mathlib.Core.Option.{some, Option·some-injective, Option·none-ne-some}
 use native.Mathlib.Omega.{arith}
-use Rattle.language.specs.Term.{Lang, Term, Terms, Arms, fun, con, nil, cons, size}
+use Rattle.language.specs.Term.{Lang, rules, images, Term, Terms, Arms, fun, con, nil, cons, size}
 use Rattle.language.specs.Scope.{HasK, Scoped, Scopedᵗ, Scopedᵃ, s-fun, s-call, s-bind, s-con, s-cases, s-nil, s-cons, s-none, s-arm}
 use Rattle.language.specs.Sub.{sub}
-use Rattle.language.specs.Run.{Value, Values, v-con, v-nil, v-cons, Enters, all, first, rev, itself, both, took}
+use Rattle.language.specs.Run.{Value, Values, v-con, v-nil, v-cons, enters, rev, itself, both, took}
 use Rattle.language.specs.Run.{Run, Runs, taken, built, bound, called, matched, done, then}
 use Rattle.language.specs.Image.{carried, carrieds}
-use Rattle.language.proofs.Forms.{size-itself, same-both}
+use Rattle.language.proofs.Forms.{size-itself, same-both, counted-is}
 use Rattle.meaning.proofs.Scopes.{sub-scoped}
 
 mutual
@@ -18,7 +18,7 @@ mutual
   run-value (taken x) = x
   run-value (built n r) = v-con (runs-values r)
   run-value (bound r s) = run-value s
-  run-value (called f r e n s) = run-value s
+  run-value (called f r e s) = run-value s
   run-value (matched r k s) = run-value s
 
   pub runs-values : {L : Lang} {ts vs : Terms} → Runs L ts vs → Values vs
@@ -96,20 +96,23 @@ pub arm-scoped : {L : Lang} {vs : Terms} {t : ℕ} {b : Term} {ps : Arms} → to
 unfolding size
 arm-scoped {vs} {t} k ps hv = body-scoped (in-arms t (size vs) k ps) s-nil (in-con hv) s-nil (λ l. omega arith) (omega arith)
 
-pub call-scoped : {L : Lang} {o a : ℕ} {b : Term} {vs ks xs : Terms} → Scoped L 0 0 (fun o a b) → Scopedᵗ L 0 0 vs → Enters L vs ks xs → size xs ≡ a
+pub call-scoped : {L : Lang} {o a : ℕ} {b : Term} {vs ks xs : Terms} → Scoped L 0 0 (fun o a b) → Scopedᵗ L 0 0 vs → enters L a vs ≡ some (ks, xs)
     → Scoped L 0 0 (sub 0 0 ks (rev xs (itself o (fun o a b))) b)
-unfolding size
-call-scoped {o} {a} {b} hf hs all n =
-    body-scoped (in-fun hf) s-nil hs (itself-scoped o hf) (λ l. absurd l) (rw (size-itself o (fun o a b)) (omega arith))
-call-scoped {o} {a} {b} hf (s-cons hk hs) first n =
-    body-scoped (in-fun hf) (s-cons hk s-nil) hs (itself-scoped o hf) (λ l. omega arith) (rw (size-itself o (fun o a b)) (omega arith))
+unfolding enters size
+call-scoped {L = rules} {o} {a} {b} {vs} hf hs e =
+    let (n, k, x) = counted-is a nil vs e in
+    rw (← k, ← x) (body-scoped (in-fun hf) s-nil hs (itself-scoped o hf) (λ l. absurd l) (rw (size-itself o (fun o a b)) (omega arith)))
+call-scoped {L = images} {vs = nil} {ks} {xs} hf s-nil e = absurd (Option·none-ne-some (ks, xs) e)
+call-scoped {L = images} {o} {a} {b} {vs = cons v vs} hf (s-cons hk hs) e =
+    let (n, k, x) = counted-is a (cons v nil) vs e in
+    rw (← k, ← x) (body-scoped (in-fun hf) (s-cons hk s-nil) hs (itself-scoped o hf) (λ l. omega arith) (rw (size-itself o (fun o a b)) (omega arith)))
 
 mutual
   pub run-scoped : {L : Lang} {t v : Term} → Run L t v → Scoped L 0 0 t → Scoped L 0 0 v
   run-scoped (taken x) h = h
   run-scoped (built n r) (s-con ps) = s-con (runs-scoped r ps)
   run-scoped (bound r s) (s-bind m b) = run-scoped s (let-scoped b (run-scoped r m))
-  run-scoped (called f r e n s) (s-call hf hs) = run-scoped s (call-scoped (run-scoped f hf) (runs-scoped r hs) e n)
+  run-scoped (called f r e s) (s-call hf hs) = run-scoped s (call-scoped (run-scoped f hf) (runs-scoped r hs) e)
   run-scoped (matched r k s) (s-cases hm hs) = run-scoped s (arm-scoped k hs (run-scoped r hm))
 
   pub runs-scoped : {L : Lang} {ts vs : Terms} → Runs L ts vs → Scopedᵗ L 0 0 ts → Scopedᵗ L 0 0 vs

@@ -7,7 +7,7 @@ use mathlib.Core.Option.{Option, some, none}
 use Rattle.language.specs.Term.{rules, images, Term, size}
 use Rattle.language.specs.Words.{words}
 use Rattle.language.specs.Sub.{sub}
-use Rattle.language.specs.Run.{atom, rev, itself, took, Counts, count}
+use Rattle.language.specs.Run.{atom, enters, rev, itself, took, Counts, count}
 use Rattle.language.specs.Image.{downto, passing, carried, image}
 use Rattle.language.specs.Kinds.{headOf}
 use Rattle.language.specs.Dead.{dead}
@@ -66,5 +66,5 @@ all-computed [] h = tt
 all-computed (x ∷ xs) h = (computed x (read (x .of .rule)) refl (h .0), all-computed xs (h .1))
 
 pub worked-runs : WorkedRuns
-unfolding read closed ended term then made second many unlike dead armsOf opened headOf words image passing downto atom size sub rev itself took eval count
+unfolding read closed ended term then made second many unlike dead armsOf opened headOf words image passing downto atom size sub enters rev itself took eval count
 worked-runs = all-computed ran (refl, (refl, (refl, (refl, (refl, (refl, (refl, (refl, (refl, (refl, (refl, (refl, (refl, (refl, (refl, tt)))))))))))))))
