@@ -1,5 +1,6 @@
 pub mod Scopes
 pub mod Compose
+pub mod Converse
 pub mod Forms
 pub mod Commute
 pub mod Values

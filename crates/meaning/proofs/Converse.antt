@@ -1,0 +1,177 @@
+-- A run of the image of a closed rule is of a run of the rule: the other half of demand 3, document 02, Wish 10. By induction on the number of calls of
+-- the image's run, case by case over the term: its passing form is given a continuation, by a call; so its parts have runs of fewer calls
+-- each, and by induction the rule's parts come to values; by the simulation the image's run goes on with the ending, which runs only where the rule's
+-- own rule applies, and by induction the body comes to a value. Assumes nothing.
+use Prim.Native.Nat.{ℕ, zero, suc, _+_, _≤_, _<_}
+use mathlib.Core.Bool.{Bool, true, false, false≢true, and-eq-true-iff}
+use mathlib.Core.Path.{_≡_, refl, sym, ap₂, _∙_}
+use mathlib.Core.Option.{some, map-eq-some-iff}
+use native.Mathlib.Omega.{arith}
+use Rattle.language.specs.Term.{rules, images, Term, Terms, Arms, var, kvar, fun, call, bind, con, cases, nil, cons, size}
+use Rattle.language.specs.Scope.{Scoped, Scopedᵗ, Scopedᵃ, s-var, s-kvar, s-fun, s-call, s-bind, s-con, s-cases, s-nil, s-cons}
+use Rattle.language.specs.Sub.{sub, subᵃ}
+use Rattle.language.specs.Run.{atom, atoms, Value, Values, v-fun, v-con, v-nil, v-cons, enters, rev, took, count}
+use Rattle.language.specs.Run.{Run, Runs, taken, built, bound, called, matched, done, then}
+use Rattle.language.specs.Image.{lam, to, calling, making, passing, carried, carrieds, chain, passingᵃ, image}
+use Rattle.language.proofs.Forms.{passing-build, size-carrieds, counted-fits, counted-is}
+use Rattle.language.proofs.Eval.{Ran, Rans}
+use Rattle.language.proofs.Clash.{never}
+use Rattle.meaning.proofs.Forms.{letting, matching, k-scoped, calling-scoped, making-scoped, letting-scoped, matching-scoped}
+use Rattle.meaning.proofs.Forms.{carrieds-values, carried-scoped, passing-scoped, passingᵃ-scoped}
+use Rattle.meaning.proofs.Values.{run-value, runs-values, runs-size, in-values}
+use Rattle.meaning.proofs.Values.{let-scoped, arm-scoped, call-scoped, run-scoped, runs-scoped}
+use Rattle.meaning.proofs.Determinism.{same-run, same-runs}
+use Rattle.meaning.proofs.Steps.{Leads, fewer, taken-all, stay, enter, calling-sub, took-image, end-called, end-bound, end-matched}
+use Rattle.meaning.proofs.Simulation.{chain-k, chain-step, through, simulated, simulatedᵗ}
+
+-- the image t comes to w by fewer than g calls
+record Under (t w : Term) (g : ℕ) : Type 0 where
+  run : Run images t w
+  below : (count run) .calls < g
+
+-- what it goes on as has fewer
+follow : {t t' w : Term} {n l m g g' : ℕ} → Leads t t' n l m → Under t w g → g ≤ n + g' → Under t' w g'
+follow {w} p u h = record { run = p .back w (u .run); below = omega (arith, fewer p (u .run), u .below) }
+
+-- a closed atom is a value
+mutual
+  unfolding atom
+
+  closed-value : {c d : ℕ} {t : Term} → Scoped rules c d t → d ≡ 0 → atom t ≡ true → Value t
+  closed-value (s-var h) z e = absurd (omega arith)
+  closed-value (s-kvar l h) z e = absurd l
+  closed-value (s-fun b) z e = v-fun
+  closed-value (s-call f ps) z e = absurd (false≢true e)
+  closed-value (s-bind m b) z e = absurd (false≢true e)
+  closed-value (s-con ps) z e = v-con (closed-values ps z e)
+  closed-value (s-cases m ps) z e = absurd (false≢true e)
+
+  closed-values : {c d : ℕ} {ts : Terms} → Scopedᵗ rules c d ts → d ≡ 0 → atoms ts ≡ true → Values ts
+  closed-values s-nil z e = v-nil
+  closed-values (s-cons {t} {ts} h hs) z e =
+      let p = and-eq-true-iff (atom t) (atoms ts) .0 e in
+      v-cons (closed-value h z (p .0)) (closed-values hs z (p .1))
+
+-- where an image's call of a function runs, the arguments are as many as the function has; a constructor is not called
+arity : {o a : ℕ} {b k w : Term} {ws : Terms} → Value k → Values ws → Run images (call (fun o a b) (cons k ws)) w → size ws ≡ a
+unfolding enters
+arity {a} {k} {ws} kv wv (called {a = a'} f r q s) =
+    let p = same-run f (taken v-fun) .0 in
+    let x : a' ≡ a = cc in
+    counted-is a (cons k nil) ws (sym (ap₂ (enters images) x (same-runs r (then (taken kv) (taken-all wv)) .0)) ∙ q) .0
+
+no-call : {t : ℕ} {w : Term} {vs ws : Terms} → Values vs → Run images (call (con t vs) ws) w → ⊥
+no-call vv (called f r q s) = let p = same-run f (taken (v-con vv)) .0 in never cc
+
+-- where an image's match of a constructor value runs, it takes an arm; a function is not matched
+arm-taken : {t : ℕ} {w : Term} {vs : Terms} {ps : Arms} → Values vs → Run images (cases (con t vs) ps) w → (b : Term) × (took t (size vs) ps ≡ some b)
+arm-taken {t} {vs} {ps} vv (matched {b} {t = t'} {vs = vs'} r k s) =
+    let p = same-run r (taken (v-con vv)) .0 in
+    let x : t' ≡ t = cc in
+    let y : vs' ≡ vs = cc in
+    (b, rw (x, y) at k)
+
+no-match : {o a : ℕ} {b w : Term} {ps : Arms} → Run images (cases (fun o a b) ps) w → ⊥
+no-match (matched r k s) = let p = same-run r (taken v-fun) .0 in never cc
+
+-- what is to be shown for fewer than g calls
+abbrev Back : ℕ → Type 0
+Back g = (t p w : Term) → Scoped rules 0 0 t → Scoped images 1 0 p → Under (to (passing t) (lam p)) w g → Ran rules t
+
+-- a chain's first term has come to a value, so the rest of the chain runs, and its terms come to theirs
+rest-back : {t z w : Term} {ts ks : Terms} {i g : ℕ} → Scoped rules 0 0 t → Scopedᵗ rules 0 0 ts → Scopedᵗ images 0 0 ks → Scoped images i 0 z
+    → i ≤ suc (size ts) + size ks → Under (sub 0 0 ks nil (chain (cons t ts) z)) w g → Ran rules t
+    → ((v : Term) → Scoped images 0 0 (carried v) → Under (sub 0 0 (cons (carried v) ks) nil (chain ts z)) w g → Rans rules ts) → Rans rules (cons t ts)
+rest-back ht hs hk hz h u x f =
+    let step = chain-step ht hs (simulated (x .run) ht) hk hz h in
+    let xs = f (x .value) (carried-scoped (run-scoped (x .run) ht) 0 0 (omega arith)) (follow step u (omega arith)) in
+    record { values = cons (x .value) (xs .values); runs = then (x .run) (xs .runs) }
+
+chain-back : {g : ℕ} → Back g → {ts ks : Terms} {z w : Term} {i : ℕ} → Scopedᵗ rules 0 0 ts → Scopedᵗ images 0 0 ks → Scoped images i 0 z
+    → i ≤ size ts + size ks → Under (sub 0 0 ks nil (chain ts z)) w g → Rans rules ts
+unfolding size chain sub
+chain-back back s-nil hk hz h u = record { values = nil; runs = done }
+chain-back back {ks} {z} {w} (s-cons {t} {ts} ht hs) hk hz h u =
+    rest-back ht hs hk hz h u
+    (back t (sub 1 0 ks nil (chain ts z)) w ht (chain-k hk hs hz h) (rw (stay ht ks nil 0 0 (omega arith)) at u))
+    (λ v hv x. chain-back back hs (s-cons hv hk) hz (omega arith) x)
+
+-- a term whose passing form is the chain over its parts with the ending z: the parts come to values, and the ending runs
+parts-back : {g : ℕ} → Back g → (t z : Term) {ts : Terms} {p w : Term} {i : ℕ} → passing t ≡ lam (chain ts z) → Scopedᵗ rules 0 0 ts
+    → Scoped images i 0 z → i ≤ suc (size ts) → Scoped images 1 0 p → Under (to (passing t) (lam p)) w (suc g)
+    → (r : Rans rules ts) × Under (sub 0 0 (rev (carrieds (r .values)) (cons (lam p) nil)) nil z) w g
+unfolding size
+parts-back back t z e hs hz h hp u =
+    let r = chain-back back hs (s-cons (s-fun hp) s-nil) hz (omega arith) (follow (enter v-fun) (rw e at u) (omega arith)) in
+    (r, follow (through t z e (simulatedᵗ (r .runs) hs) hz h hp) u (omega arith))
+
+-- the terms, case by case, once their parts have come to values
+let-back : {m b p w : Term} {g : ℕ} → Back g → Scoped rules 0 0 m → Scoped rules 0 1 b → Scoped images 1 0 p → {vs : Terms} → Runs rules (cons m nil) vs
+    → Under (sub 0 0 (rev (carrieds vs) (cons (lam p) nil)) nil (letting (passing b))) w g → Ran rules (bind m b)
+unfolding rev carrieds
+let-back {b} {p} {w} back hm hb hp (then {v} r done) u =
+    let body = back (sub 0 0 nil (cons v nil) b) p w (let-scoped hb (run-scoped r hm)) hp (follow (end-bound (run-value r) hb (s-fun hp)) u (omega arith)) in
+    record { value = body .value; run = bound r (body .run) }
+
+call-back : {f p w : Term} {ps : Terms} {g : ℕ} → Back g → Scoped rules 0 0 f → Scopedᵗ rules 0 0 ps → Scoped images 1 0 p → {vs : Terms} → Runs rules (cons f ps) vs
+    → Under (sub 0 0 (rev (carrieds vs) (cons (lam p) nil)) nil (calling (size ps))) w g → Ran rules (call f ps)
+unfolding rev carrieds enters
+call-back {f} {p} {w} {ps} {g} back hf hs hp (then {v} {vs} r rs) u = go (run-value r) r (run-scoped r hf) u
+  where
+    -- what the ending is
+    ending : (v : Term) → sub 0 0 (rev (carrieds vs) (cons (carried v) (cons (lam p) nil))) nil (calling (size ps)) ≡ call (carried v) (cons (lam p) (carrieds vs))
+    ending v = rw (← (runs-size rs), ← (size-carrieds vs)) (calling-sub (carrieds vs) (carried v) (lam p))
+
+    go : {v : Term} → Value v → Run rules f v → Scoped rules 0 0 v
+        → Under (sub 0 0 (rev (carrieds vs) (cons (carried v) (cons (lam p) nil))) nil (calling (size ps))) w g → Ran rules (call f ps)
+    go (v-con {t} {ps = qs} vv) r hv u = absurd (no-call (carrieds-values vv) (rw (ending (con t qs)) at (u .run)))
+    go (v-fun {o} {a} {b}) r hv u =
+        let n : size vs ≡ a = sym (size-carrieds vs) ∙ arity v-fun (carrieds-values (runs-values rs)) (rw (ending (fun o a b)) at (u .run)) in
+        let fits = counted-fits a nil vs n in
+        let body = back _ p w (call-scoped hv (runs-scoped rs hs) fits) hp (follow (end-called vs (runs-size rs) n v-fun (runs-values rs) hv) u (omega arith)) in
+        record { value = body .value; run = called r rs fits (body .run) }
+
+match-back : {m p w : Term} {ps : Arms} {g : ℕ} → Back g → Scoped rules 0 0 m → Scopedᵃ rules 0 0 ps → Scoped images 1 0 p → {vs : Terms} → Runs rules (cons m nil) vs
+    → Under (sub 0 0 (rev (carrieds vs) (cons (lam p) nil)) nil (matching (passingᵃ ps))) w g → Ran rules (cases m ps)
+unfolding rev carrieds sub
+match-back {m} {p} {w} {ps} {g} back hm hs hp (then r done) u = go (run-value r) r (run-scoped r hm) u
+  where
+    go : {v : Term} → Value v → Run rules m v → Scoped rules 0 0 v
+        → Under (sub 0 0 (cons (carried v) (cons (lam p) nil)) nil (matching (passingᵃ ps))) w g → Ran rules (cases m ps)
+    go v-fun r hv u = absurd (no-match (u .run))
+    go (v-con {t} {ps = vs} vv) r hv u =
+        let (b', k) = arm-taken (carrieds-values vv) (u .run) in
+        let k' = sym (took-image (con t (carrieds vs)) (lam p) t (size vs) hs) ∙ (rw (size-carrieds vs) at k) in
+        let (b, y, _) = map-eq-some-iff (λ b. to (passing b) (lam p)) (took t (size vs) ps) .0 k' in
+        let body = back _ p w (arm-scoped y hs hv) hp (follow (end-matched t vs ps y vv hs (s-fun hp)) u (omega arith)) in
+        record { value = body .value; run = matched r y (body .run) }
+
+-- a constructor is a value, or is built of what its parts come to
+con-back : {p w : Term} {t : ℕ} {ps : Terms} {g : ℕ} → Back g → (e : Bool) → atoms ps ≡ e → Scopedᵗ rules 0 0 ps → Scoped images 1 0 p
+    → Under (to (passing (con t ps)) (lam p)) w (suc g) → Ran rules (con t ps)
+con-back back true e hs hp u = record { value = _; run = taken (v-con (closed-values hs refl e)) }
+con-back {t} {ps} back false e hs hp u =
+    let r = parts-back back (con t ps) (making t (size ps)) (passing-build t ps e) hs (making-scoped t (size ps)) (omega arith) hp u .0 in
+    record { value = con t (r .values); run = built e (r .runs) }
+
+back : (g : ℕ) → Back g
+unfolding passing chain size
+back zero t p w h hp u = absurd (omega (arith, u .below))
+back (suc g) (var i) p w (s-var h) hp u = absurd (omega arith)
+back (suc g) (kvar i) p w (s-kvar l h) hp u = absurd l
+back (suc g) (fun o a b) p w h hp u = record { value = fun o a b; run = taken v-fun }
+back (suc g) (call f ps) p w (s-call hf hs) hp u =
+    let (r, v) = parts-back (back g) (call f ps) (calling (size ps)) refl (s-cons hf hs) (calling-scoped (size ps)) (omega arith) hp u in
+    call-back (back g) hf hs hp (r .runs) v
+back (suc g) (bind m b) p w (s-bind hm hb) hp u =
+    let (r, v) = parts-back (back g) (bind m b) (letting (passing b)) refl (s-cons hm s-nil) (letting-scoped 0 0 (passing-scoped hb 2 1 (omega arith))) (omega arith) hp u in
+    let-back (back g) hm hb hp (r .runs) v
+back (suc g) (con t ps) p w (s-con hs) hp u = con-back (back g) (atoms ps) refl hs hp u
+back (suc g) (cases m ps) p w (s-cases hm hs) hp u =
+    let (r, v) = parts-back (back g) (cases m ps) (matching (passingᵃ ps)) refl (s-cons hm s-nil) (matching-scoped 0 0 (passingᵃ-scoped hs 0 0 (omega arith))) (omega arith) hp u in
+    match-back (back g) hm hs hp (r .runs) v
+
+-- the image gives the passing form the continuation that returns its argument
+pub rule-comes : {t w : Term} → Scoped rules 0 0 t → Run images (image t) w → Ran rules t
+unfolding image
+rule-comes {t} {w} h r = back (suc ((count r) .calls)) t (kvar 0) w h (k-scoped 0 1 0 (omega arith)) record { run = r; below = omega arith }
