@@ -10,8 +10,20 @@ use mathlib.Core.Option.{Option, some, none as nothing, Option·some-injective, 
 use lib.Dec.{eqb}
 use borrow.Author.Tests.{eq-eqb, eqb-true}
 use Rattle.language.specs.Term.{Term, Terms, Arms, var, kvar, fun, call, bind, con, cases, nil, cons, none, arm, size, sizeᵃ}
-use Rattle.language.specs.Run.{atom, atoms, Value, Values, v-nil, v-cons, counted, itself, both}
+use Rattle.language.specs.Run.{atom, atoms, Value, Values, v-fun, v-con, v-nil, v-cons, counted, itself, both}
 use Rattle.language.specs.Image.{lam, to, downto, making, passing, carried, carrieds, chain, passingᵃ}
+
+-- values are atoms
+mutual
+  unfolding atom
+
+  pub value-atom : {v : Term} → Value v → atom v ≡ true
+  value-atom v-fun = refl
+  value-atom (v-con vs) = values-atoms vs
+
+  pub values-atoms : {vs : Terms} → Values vs → atoms vs ≡ true
+  values-atoms v-nil = refl
+  values-atoms (v-cons v vs) = rw (value-atom v) (values-atoms vs)
 
 -- "Atom: 0201 0401 0900, then its carried form."
 pub passing-atom : (t : Term) → atom t ≡ true → passing t ≡ lam (to (kvar 0) (carried t))

@@ -1,7 +1,9 @@
 pub mod Clash
 pub mod Heads
 pub mod Forms
+pub mod Determinism
 pub mod Places
 pub mod Stores
 pub mod Eval
+pub mod Stuck
 pub mod Cases

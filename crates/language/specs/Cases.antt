@@ -6,7 +6,7 @@ use mathlib.Core.List.{List, [], _∷_, _++_, map}
 use mathlib.Core.Option.{Option, some, none}
 use mathlib.Core.Path.{_≡_}
 use lib.ListN.{length, replicate}
-use Rattle.language.specs.Term.{images, Term}
+use Rattle.language.specs.Term.{rules, images, Term}
 use Rattle.language.specs.Words.{words}
 use Rattle.language.specs.Run.{Run, count}
 use Rattle.language.specs.Image.{image}
@@ -226,3 +226,19 @@ Each P (a ∷ more) = P a × Each P more
 -- the one claim
 abbrev pub WorkedRules : Type 0
 WorkedRules = Each Meets worked
+
+-- Wish 10: a function of two arguments that is called with one, and a function of one that is called with two. They are accepted, and not "a function
+-- with exactly that many arguments" is called
+abbrev tooFew : List ℕ
+tooFew = 0x0401 ∷ 0x0202 ∷ 0x0600 ∷ 0x0000 ∷ 0x0601 ∷ 0x0000 ∷ []
+
+abbrev tooMany : List ℕ
+tooMany = 0x0402 ∷ 0x0201 ∷ 0x0600 ∷ 0x0000 ∷ 0x0601 ∷ 0x0000 ∷ 0x0602 ∷ 0x0000 ∷ []
+
+-- an accepted rule that comes to no value; and its image comes to none
+abbrev pub NoValue : Reading → Type 0
+NoValue (accepted t) = ((v : Term) → Run rules t v → ⊥) × ((w : Term) → Run images (image t) w → ⊥)
+NoValue (refused e p) = ⊥
+
+abbrev pub WorkedStuck : Type 0
+WorkedStuck = Each (λ ws. NoValue (read ws)) (tooFew ∷ tooMany ∷ [])

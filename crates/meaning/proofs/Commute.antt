@@ -10,9 +10,9 @@ use Rattle.language.specs.Scope.{Scoped, Scopedᵗ, Scopedᵃ, s-var, s-kvar, s
 use Rattle.language.specs.Sub.{look, sub, subᵗ, subᵃ}
 use Rattle.language.specs.Run.{atom, atoms, Values, v-nil, v-cons}
 use Rattle.language.specs.Image.{lam, to, passing, carried, carrieds, chain, passingᵃ}
-use Rattle.language.proofs.Forms.{passing-atom}
+use Rattle.language.proofs.Forms.{value-atom, passing-atom}
 use Rattle.meaning.proofs.Scopes.{keep}
-use Rattle.meaning.proofs.Forms.{value-atom, calling-scoped, making-scoped, letting, matching}
+use Rattle.meaning.proofs.Forms.{calling-scoped, making-scoped, letting, matching}
 
 pub size-sub : (dk dx : ℕ) (ks xs ts : Terms) → size (subᵗ dk dx ks xs ts) ≡ size ts
 unfolding size subᵗ

@@ -13,15 +13,15 @@ use Rattle.language.specs.Sub.{sub, subᵃ}
 use Rattle.language.specs.Run.{atom, atoms, Value, Values, v-fun, v-con, v-nil, v-cons, enters, rev, took, count}
 use Rattle.language.specs.Run.{Run, Runs, taken, built, bound, called, matched, done, then}
 use Rattle.language.specs.Image.{lam, to, calling, making, passing, carried, carrieds, chain, passingᵃ, image}
-use Rattle.language.proofs.Forms.{passing-build, size-carrieds, counted-fits, counted-is}
+use Rattle.language.proofs.Forms.{passing-build, size-carrieds, counted-fits}
 use Rattle.language.proofs.Eval.{Ran, Rans}
 use Rattle.language.proofs.Clash.{never}
 use Rattle.meaning.proofs.Forms.{letting, matching, k-scoped, calling-scoped, making-scoped, letting-scoped, matching-scoped}
 use Rattle.meaning.proofs.Forms.{carrieds-values, carried-scoped, passing-scoped, passingᵃ-scoped}
 use Rattle.meaning.proofs.Values.{run-value, runs-values, runs-size, in-values}
 use Rattle.meaning.proofs.Values.{let-scoped, arm-scoped, call-scoped, run-scoped, runs-scoped}
-use Rattle.meaning.proofs.Determinism.{same-run, same-runs}
-use Rattle.meaning.proofs.Steps.{Leads, fewer, taken-all, stay, enter, calling-sub, took-image, end-called, end-bound, end-matched}
+use Rattle.language.proofs.Determinism.{same-run, uncalled, onward-fits}
+use Rattle.meaning.proofs.Steps.{Leads, fewer, stay, enter, calling-sub, took-image, end-called, end-bound, end-matched}
 use Rattle.meaning.proofs.Simulation.{chain-k, chain-step, through, simulated, simulatedᵗ}
 
 -- the image t comes to w by fewer than g calls
@@ -55,10 +55,7 @@ mutual
 -- where an image's call of a function runs, the arguments are as many as the function has; a constructor is not called
 arity : {o a : ℕ} {b k w : Term} {ws : Terms} → Value k → Values ws → Run images (call (fun o a b) (cons k ws)) w → size ws ≡ a
 unfolding enters
-arity {a} {k} {ws} kv wv (called {a = a'} f r q s) =
-    let p = same-run f (taken v-fun) .0 in
-    let x : a' ≡ a = cc in
-    counted-is a (cons k nil) ws (sym (ap₂ (enters images) x (same-runs r (then (taken kv) (taken-all wv)) .0)) ∙ q) .0
+arity {o} {a} {b} {k} {w} {ws} kv wv r = onward-fits images o b w a (cons k nil) ws (uncalled (v-cons kv wv) r)
 
 no-call : {t : ℕ} {w : Term} {vs ws : Terms} → Values vs → Run images (call (con t vs) ws) w → ⊥
 no-call vv (called f r q s) = let p = same-run f (taken (v-con vv)) .0 in never cc

@@ -6,20 +6,9 @@ use mathlib.Core.Path.{_≡_, refl}
 use native.Mathlib.Omega.{arith}
 use Rattle.language.specs.Term.{Lang, rules, images, Term, Terms, Arms, kvar, fun, bind, cases, size}
 use Rattle.language.specs.Scope.{Scoped, Scopedᵗ, Scopedᵃ, s-var, s-kvar, s-fun, s-call, s-bind, s-con, s-cases, s-nil, s-cons, s-none, s-arm}
-use Rattle.language.specs.Run.{atom, atoms, Value, Values, v-fun, v-con, v-nil, v-cons}
+use Rattle.language.specs.Run.{atoms, Value, Values, v-fun, v-con, v-nil, v-cons}
 use Rattle.language.specs.Image.{to, downto, calling, making, passing, carried, carrieds, chain, passingᵃ}
 use Rattle.meaning.proofs.Scopes.{widen}
-
-mutual
-  unfolding atom
-
-  pub value-atom : {v : Term} → Value v → atom v ≡ true
-  value-atom v-fun = refl
-  value-atom (v-con vs) = values-atoms vs
-
-  pub values-atoms : {vs : Terms} → Values vs → atoms vs ≡ true
-  values-atoms v-nil = refl
-  values-atoms (v-cons v vs) = rw (value-atom v) (values-atoms vs)
 
 mutual
   unfolding carried

@@ -6,6 +6,5 @@ pub mod Commute
 pub mod Values
 pub mod Steps
 pub mod Simulation
-pub mod Determinism
 pub mod Promises
 pub mod Worked

@@ -6,7 +6,7 @@ use Rattle.trust.proofs.Accepted.{accepted-rule, accepted-are-rules}
 use Rattle.sizes.proofs.Promises.{seven-times}
 use Rattle.meaning.specs.Promises.{Plain, Plainᵗ, p-con, p-nil, p-cons, PlainIsCarried, RunsAreDetermined, Demand3, Demand3OfWords, SevenTimesOfWords}
 use Rattle.meaning.proofs.Simulation.{image-comes}
-use Rattle.meaning.proofs.Determinism.{same-run}
+use Rattle.language.proofs.Determinism.{same-run}
 
 mutual
   unfolding carried

@@ -12,12 +12,12 @@ use Rattle.language.specs.Sub.{look, sub, subᵗ, subᵃ}
 use Rattle.language.specs.Run.{Value, Values, v-fun, v-con, v-nil, v-cons, enters, rev, itself, both, took}
 use Rattle.language.specs.Run.{Run, Runs, taken, bound, called, matched, done, then, Counts, count, counts}
 use Rattle.language.specs.Image.{lam, to, downto, calling, making, passing, carried, carrieds, passingᵃ}
-use Rattle.language.proofs.Forms.{size-carrieds, passing-atom, itself-values, counted-fits}
+use Rattle.language.proofs.Forms.{value-atom, size-carrieds, passing-atom, itself-values, counted-fits}
 use Rattle.meaning.specs.Promises.{Comes}
 use Rattle.meaning.proofs.Scopes.{keep}
-use Rattle.meaning.proofs.Forms.{value-atom, carried-value, carrieds-values, carried-scoped, passing-scoped, letting, matching}
+use Rattle.meaning.proofs.Forms.{carried-value, carrieds-values, carried-scoped, passing-scoped, letting, matching}
 use Rattle.meaning.proofs.Commute.{passing-sub}
-use Rattle.meaning.proofs.Determinism.{call-same, match-same, same-run, same-runs}
+use Rattle.language.proofs.Determinism.{match-same, same-run, taken-all, Onward, uncalled}
 use Rattle.meaning.proofs.Values.{rev-values, carrieds-rev, carrieds-itself, in-fun, in-arms}
 
 -- so many calls, lets and matches
@@ -31,10 +31,6 @@ pub adjust : {t w : Term} {n l m n' l' m' : ℕ} → Comes t w n l m → (n ≡ 
 adjust r e = comes (r .run) (omega arith)
 
 -- values are taken whole, by no call, let or match
-pub taken-all : {L : Lang} {vs : Terms} → Values vs → Runs L vs vs
-taken-all v-nil = done
-taken-all (v-cons v vs) = then (taken v) (taken-all vs)
-
 taken-free : (L : Lang) {vs : Terms} (h : Values vs) → Counted (counts (taken-all {L = L} h)) 0 0 0
 unfolding taken-all count
 taken-free L v-nil = (refl, refl, refl)
@@ -72,13 +68,8 @@ pub applying : {o a : ℕ} {b k : Term} {ws : Terms} → Value k → Values ws �
 unfolding enters count
 applying {o} {a} {b} {k} {ws} kv wv e = record {
   ahead = λ w s. comes (called (taken v-fun) (then (taken kv) (taken-all wv)) (counted-fits a (cons k nil) ws e) s) (omega (arith, taken-free images wv));
-  back = λ w r. undo r;
+  back = λ w r. subst (Onward images o a b w) (counted-fits a (cons k nil) ws e) (uncalled (v-cons kv wv) r);
 }
-  where
-    undo : {w : Term} → Run images (call (fun o a b) (cons k ws)) w → Run images (sub 0 0 (cons k nil) (rev ws (itself o (fun o a b))) b) w
-    undo {w} (called f r q s) =
-        subst (λ x. Run images x w)
-        (call-same images q (counted-fits a (cons k nil) ws e) (same-run f (taken v-fun) .0) (same-runs r (then (taken kv) (taken-all wv)) .0)) s
 
 -- a value is bound
 binding : {v b : Term} → Value v → Leads (bind v b) (sub 0 0 nil (cons v nil) b) 0 1 0
