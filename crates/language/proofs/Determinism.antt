@@ -1,14 +1,12 @@
 -- Two runs of one term, in either language, come to the same value by the same rules: at each term one rule fits, and what it goes on with
--- is decided by what came before. By induction on the first run. So a call of values can be read backwards. Assumes nothing.
+-- is decided by what came before. By induction on the first run. Assumes nothing.
 use Prim.Native.Nat.{ℕ}
-use mathlib.Core.Bool.{Bool, true, false, cond, false≢true}
-use mathlib.Core.Option.{Option, some, none as nothing, Option·some-injective, Option·none-ne-some}
+use mathlib.Core.Bool.{false, false≢true}
+use mathlib.Core.Option.{some, Option·some-injective}
 use mathlib.Core.Path.{_≡_, refl, ap, ap₂, sym, _∙_, subst}
-use lib.Dec.{eqb}
-use borrow.Author.Tests.{eqb-true}
-use Rattle.language.specs.Term.{Lang, Term, Terms, Arms, fun, call, con, nil, cons, size}
+use Rattle.language.specs.Term.{Lang, Term, Terms, Arms, fun, con, nil, cons, size}
 use Rattle.language.specs.Sub.{sub}
-use Rattle.language.specs.Run.{atoms, Values, v-fun, v-con, v-nil, v-cons, counted, enters, rev, itself, took}
+use Rattle.language.specs.Run.{atoms, Values, v-fun, v-con, enters, rev, itself, took}
 use Rattle.language.specs.Run.{Run, Runs, taken, built, bound, called, matched, done, then, uses, _⊕_, count, counts}
 use Rattle.language.proofs.Forms.{values-atoms}
 
@@ -69,32 +67,3 @@ mutual
       let (p, q) = same-run r r' in
       let (p', q') = same-runs s s' in
       (ap₂ cons p p', λ i. q i ⊕ q' i)
-
--- values are taken whole
-unfoldable pub taken-all : {L : Lang} {vs : Terms} → Values vs → Runs L vs vs
-taken-all v-nil = done
-taken-all (v-cons v vs) = then (taken v) (taken-all vs)
-
--- what is left to run of a function that was called with values, by what goes in; nothing runs where nothing does
-abbrev pub Onward : Lang → ℕ → ℕ → Term → Term → Option (Terms × Terms) → Type 0
-Onward L o a b w nothing = ⊥
-Onward L o a b w (some (ks, xs)) = Run L (sub 0 0 ks (rev xs (itself o (fun o a b))) b) w
-
-pub uncalled : {L : Lang} {o a : ℕ} {b w : Term} {vs : Terms} → Values vs → Run L (call (fun o a b) vs) w → Onward L o a b w (enters L a vs)
-uncalled {L} {o} {a} {b} {w} {vs} vv (called {a = a'} {ks} {xs} f r e s) = go (enters L a vs) refl
-  where
-    go : (x : Option (Terms × Terms)) → enters L a vs ≡ x → Onward L o a b w x
-    go nothing q =
-        let p = same-run f (taken v-fun) .0 in
-        let y : a' ≡ a = cc in
-        absurd (Option·none-ne-some (ks, xs) (sym q ∙ sym (ap₂ (enters L) y (same-runs r (taken-all vv) .0)) ∙ e))
-    go (some (ks', xs')) q = subst (λ y. Run L y w) (call-same L e q (same-run f (taken v-fun) .0) (same-runs r (taken-all vv) .0)) s
-
--- the arguments were as many as the function has
-pub onward-fits : (L : Lang) (o : ℕ) (b w : Term) (a : ℕ) (ks xs : Terms) → Onward L o a b w (counted a ks xs) → size xs ≡ a
-unfolding counted
-onward-fits L o b w a ks xs r = go (eqb (size xs) a) refl r
-  where
-    go : (e : Bool) → eqb (size xs) a ≡ e → Onward L o a b w (cond {A = Option (Terms × Terms)} e (some (ks, xs)) nothing) → size xs ≡ a
-    go true q r = eqb-true (size xs) a q
-    go false q r = absurd r

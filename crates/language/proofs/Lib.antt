@@ -2,6 +2,7 @@ pub mod Clash
 pub mod Heads
 pub mod Forms
 pub mod Determinism
+pub mod Back
 pub mod Places
 pub mod Stores
 pub mod Eval

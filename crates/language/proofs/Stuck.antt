@@ -10,7 +10,7 @@ use Rattle.language.specs.Kinds.{headOf}
 use Rattle.language.specs.Dead.{dead}
 use Rattle.language.specs.Read.{then, made, second, many, unlike, armsOf, opened, term, closed, ended, read}
 use Rattle.language.specs.Cases.{WorkedStuck}
-use Rattle.language.proofs.Determinism.{uncalled}
+use Rattle.language.proofs.Back.{uncalled}
 
 -- a value alone, and one before another
 alone : {v : _} → Value v → Values (cons v nil)

@@ -4,8 +4,8 @@
 -- own rule applies, and by induction the body comes to a value. Assumes nothing.
 use Prim.Native.Nat.{ℕ, zero, suc, _+_, _≤_, _<_}
 use mathlib.Core.Bool.{Bool, true, false, false≢true, and-eq-true-iff}
-use mathlib.Core.Path.{_≡_, refl, sym, ap₂, _∙_}
-use mathlib.Core.Option.{some, map-eq-some-iff}
+use mathlib.Core.Path.{_≡_, refl, sym, _∙_, subst}
+use mathlib.Core.Option.{Option, some, none as nothing}
 use native.Mathlib.Omega.{arith}
 use Rattle.language.specs.Term.{rules, images, Term, Terms, Arms, var, kvar, fun, call, bind, con, cases, nil, cons, size}
 use Rattle.language.specs.Scope.{Scoped, Scopedᵗ, Scopedᵃ, s-var, s-kvar, s-fun, s-call, s-bind, s-con, s-cases, s-nil, s-cons}
@@ -15,12 +15,11 @@ use Rattle.language.specs.Run.{Run, Runs, taken, built, bound, called, matched,
 use Rattle.language.specs.Image.{lam, to, calling, making, passing, carried, carrieds, chain, passingᵃ, image}
 use Rattle.language.proofs.Forms.{passing-build, size-carrieds, counted-fits}
 use Rattle.language.proofs.Eval.{Ran, Rans}
-use Rattle.language.proofs.Clash.{never}
 use Rattle.meaning.proofs.Forms.{letting, matching, k-scoped, calling-scoped, making-scoped, letting-scoped, matching-scoped}
 use Rattle.meaning.proofs.Forms.{carrieds-values, carried-scoped, passing-scoped, passingᵃ-scoped}
 use Rattle.meaning.proofs.Values.{run-value, runs-values, runs-size, in-values}
 use Rattle.meaning.proofs.Values.{let-scoped, arm-scoped, call-scoped, run-scoped, runs-scoped}
-use Rattle.language.proofs.Determinism.{same-run, uncalled, onward-fits}
+use Rattle.language.proofs.Back.{uncalled, entered-fits, no-call, Chosen, unmatched, no-match}
 use Rattle.meaning.proofs.Steps.{Leads, fewer, stay, enter, calling-sub, took-image, end-called, end-bound, end-matched}
 use Rattle.meaning.proofs.Simulation.{chain-k, chain-step, through, simulated, simulatedᵗ}
 
@@ -51,25 +50,6 @@ mutual
   closed-values (s-cons {t} {ts} h hs) z e =
       let p = and-eq-true-iff (atom t) (atoms ts) .0 e in
       v-cons (closed-value h z (p .0)) (closed-values hs z (p .1))
-
--- where an image's call of a function runs, the arguments are as many as the function has; a constructor is not called
-arity : {o a : ℕ} {b k w : Term} {ws : Terms} → Value k → Values ws → Run images (call (fun o a b) (cons k ws)) w → size ws ≡ a
-unfolding enters
-arity {o} {a} {b} {k} {w} {ws} kv wv r = onward-fits images o b w a (cons k nil) ws (uncalled (v-cons kv wv) r)
-
-no-call : {t : ℕ} {w : Term} {vs ws : Terms} → Values vs → Run images (call (con t vs) ws) w → ⊥
-no-call vv (called f r q s) = let p = same-run f (taken (v-con vv)) .0 in never cc
-
--- where an image's match of a constructor value runs, it takes an arm; a function is not matched
-arm-taken : {t : ℕ} {w : Term} {vs : Terms} {ps : Arms} → Values vs → Run images (cases (con t vs) ps) w → (b : Term) × (took t (size vs) ps ≡ some b)
-arm-taken {t} {vs} {ps} vv (matched {b} {t = t'} {vs = vs'} r k s) =
-    let p = same-run r (taken (v-con vv)) .0 in
-    let x : t' ≡ t = cc in
-    let y : vs' ≡ vs = cc in
-    (b, rw (x, y) at k)
-
-no-match : {o a : ℕ} {b w : Term} {ps : Arms} → Run images (cases (fun o a b) ps) w → ⊥
-no-match (matched r k s) = let p = same-run r (taken v-fun) .0 in never cc
 
 -- what is to be shown for fewer than g calls
 abbrev Back : ℕ → Type 0
@@ -102,20 +82,23 @@ parts-back back t z e hs hz h hp u =
     let r = chain-back back hs (s-cons (s-fun hp) s-nil) hz (omega arith) (follow (enter v-fun) (rw e at u) (omega arith)) in
     (r, follow (through t z e (simulatedᵗ (r .runs) hs) hz h hp) u (omega arith))
 
+-- what the body comes to, the term comes to
+last : {t t' : Term} → ((v : Term) → Run rules t' v → Run rules t v) → Ran rules t' → Ran rules t
+last f x = record { value = x .value; run = f (x .value) (x .run) }
+
 -- the terms, case by case, once their parts have come to values
-let-back : {m b p w : Term} {g : ℕ} → Back g → Scoped rules 0 0 m → Scoped rules 0 1 b → Scoped images 1 0 p → {vs : Terms} → Runs rules (cons m nil) vs
+let-back : {m b p w : Term} {vs : Terms} {g : ℕ} → Back g → Scoped rules 0 0 m → Scoped rules 0 1 b → Scoped images 1 0 p → Runs rules (cons m nil) vs
     → Under (sub 0 0 (rev (carrieds vs) (cons (lam p) nil)) nil (letting (passing b))) w g → Ran rules (bind m b)
 unfolding rev carrieds
 let-back {b} {p} {w} back hm hb hp (then {v} r done) u =
-    let body = back (sub 0 0 nil (cons v nil) b) p w (let-scoped hb (run-scoped r hm)) hp (follow (end-bound (run-value r) hb (s-fun hp)) u (omega arith)) in
-    record { value = body .value; run = bound r (body .run) }
+    last (λ x s. bound r s)
+    (back (sub 0 0 nil (cons v nil) b) p w (let-scoped hb (run-scoped r hm)) hp (follow (end-bound (run-value r) hb (s-fun hp)) u (omega arith)))
 
-call-back : {f p w : Term} {ps : Terms} {g : ℕ} → Back g → Scoped rules 0 0 f → Scopedᵗ rules 0 0 ps → Scoped images 1 0 p → {vs : Terms} → Runs rules (cons f ps) vs
+call-back : {f p w : Term} {ps vs : Terms} {g : ℕ} → Back g → Scoped rules 0 0 f → Scopedᵗ rules 0 0 ps → Scoped images 1 0 p → Runs rules (cons f ps) vs
     → Under (sub 0 0 (rev (carrieds vs) (cons (lam p) nil)) nil (calling (size ps))) w g → Ran rules (call f ps)
 unfolding rev carrieds enters
-call-back {f} {p} {w} {ps} {g} back hf hs hp (then {v} {vs} r rs) u = go (run-value r) r (run-scoped r hf) u
+call-back {f} {p} {w} {ps} {g} back hf hs hp (then {vs} r rs) u = go (run-value r) r (run-scoped r hf) u
   where
-    -- what the ending is
     ending : (v : Term) → sub 0 0 (rev (carrieds vs) (cons (carried v) (cons (lam p) nil))) nil (calling (size ps)) ≡ call (carried v) (cons (lam p) (carrieds vs))
     ending v = rw (← (runs-size rs), ← (size-carrieds vs)) (calling-sub (carrieds vs) (carried v) (lam p))
 
@@ -123,25 +106,33 @@ call-back {f} {p} {w} {ps} {g} back hf hs hp (then {v} {vs} r rs) u = go (run-va
         → Under (sub 0 0 (rev (carrieds vs) (cons (carried v) (cons (lam p) nil))) nil (calling (size ps))) w g → Ran rules (call f ps)
     go (v-con {t} {ps = qs} vv) r hv u = absurd (no-call (carrieds-values vv) (rw (ending (con t qs)) at (u .run)))
     go (v-fun {o} {a} {b}) r hv u =
-        let n : size vs ≡ a = sym (size-carrieds vs) ∙ arity v-fun (carrieds-values (runs-values rs)) (rw (ending (fun o a b)) at (u .run)) in
+        let entered = uncalled (v-cons v-fun (carrieds-values (runs-values rs))) (rw (ending (fun o a b)) at (u .run)) in
+        let n : size vs ≡ a = sym (size-carrieds vs) ∙ entered-fits images o (to (passing b) (kvar 0)) w a (cons (lam p) nil) (carrieds vs) entered in
         let fits = counted-fits a nil vs n in
-        let body = back _ p w (call-scoped hv (runs-scoped rs hs) fits) hp (follow (end-called vs (runs-size rs) n v-fun (runs-values rs) hv) u (omega arith)) in
-        record { value = body .value; run = called r rs fits (body .run) }
+        last (λ x s. called r rs fits s)
+        (back _ p w (call-scoped hv (runs-scoped rs hs) fits) hp (follow (end-called vs (runs-size rs) n v-fun (runs-values rs) hv) u (omega arith)))
 
-match-back : {m p w : Term} {ps : Arms} {g : ℕ} → Back g → Scoped rules 0 0 m → Scopedᵃ rules 0 0 ps → Scoped images 1 0 p → {vs : Terms} → Runs rules (cons m nil) vs
+match-back : {m p w : Term} {vs : Terms} {ps : Arms} {g : ℕ} → Back g → Scoped rules 0 0 m → Scopedᵃ rules 0 0 ps → Scoped images 1 0 p → Runs rules (cons m nil) vs
     → Under (sub 0 0 (rev (carrieds vs) (cons (lam p) nil)) nil (matching (passingᵃ ps))) w g → Ran rules (cases m ps)
 unfolding rev carrieds sub
 match-back {m} {p} {w} {ps} {g} back hm hs hp (then r done) u = go (run-value r) r (run-scoped r hm) u
   where
+    arm-back : {t : ℕ} {vs : Terms} → Values vs → Run rules m (con t vs) → Scoped rules 0 0 (con t vs)
+        → Under (sub 0 0 (cons (carried (con t vs)) (cons (lam p) nil)) nil (matching (passingᵃ ps))) w g
+        → (x : Option Term) → took t (size vs) ps ≡ x → Ran rules (cases m ps)
+    arm-back {t} {vs} vv r hv u nothing y =
+        let arms = subᵃ 0 0 (cons (con t (carrieds vs)) (cons (lam p) nil)) nil (passingᵃ ps) in
+        let no-arm : took t (size (carrieds vs)) arms ≡ nothing
+        = rw (size-carrieds vs, took-image (con t (carrieds vs)) (lam p) t (size vs) hs, y) refl in
+        absurd (subst (Chosen images (carrieds vs) w) no-arm (unmatched (carrieds-values vv) (u .run)))
+    arm-back {t} {vs} vv r hv u (some b) y =
+        last (λ x s. matched r y s)
+        (back (sub 0 0 nil (rev vs nil) b) p w (arm-scoped y hs hv) hp (follow (end-matched t vs ps y vv hs (s-fun hp)) u (omega arith)))
+
     go : {v : Term} → Value v → Run rules m v → Scoped rules 0 0 v
         → Under (sub 0 0 (cons (carried v) (cons (lam p) nil)) nil (matching (passingᵃ ps))) w g → Ran rules (cases m ps)
     go v-fun r hv u = absurd (no-match (u .run))
-    go (v-con {t} {ps = vs} vv) r hv u =
-        let (b', k) = arm-taken (carrieds-values vv) (u .run) in
-        let k' = sym (took-image (con t (carrieds vs)) (lam p) t (size vs) hs) ∙ (rw (size-carrieds vs) at k) in
-        let (b, y, _) = map-eq-some-iff (λ b. to (passing b) (lam p)) (took t (size vs) ps) .0 k' in
-        let body = back _ p w (arm-scoped y hs hv) hp (follow (end-matched t vs ps y vv hs (s-fun hp)) u (omega arith)) in
-        record { value = body .value; run = matched r y (body .run) }
+    go (v-con {t} {ps = vs} vv) r hv u = arm-back vv r hv u (took t (size vs) ps) refl
 
 -- a constructor is a value, or is built of what its parts come to
 con-back : {p w : Term} {t : ℕ} {ps : Terms} {g : ℕ} → Back g → (e : Bool) → atoms ps ≡ e → Scopedᵗ rules 0 0 ps → Scoped images 1 0 p

@@ -6,5 +6,6 @@ pub mod Commute
 pub mod Values
 pub mod Steps
 pub mod Simulation
+pub mod Source
 pub mod Promises
 pub mod Worked

@@ -17,7 +17,8 @@ use Rattle.meaning.specs.Promises.{Comes}
 use Rattle.meaning.proofs.Scopes.{keep}
 use Rattle.meaning.proofs.Forms.{carried-value, carrieds-values, carried-scoped, passing-scoped, letting, matching}
 use Rattle.meaning.proofs.Commute.{passing-sub}
-use Rattle.language.proofs.Determinism.{match-same, same-run, taken-all, Onward, uncalled}
+use Rattle.language.proofs.Determinism.{same-run}
+use Rattle.language.proofs.Back.{taken-all, Entered, uncalled, unbound, Chosen, unmatched}
 use Rattle.meaning.proofs.Values.{rev-values, carrieds-rev, carrieds-itself, in-fun, in-arms}
 
 -- so many calls, lets and matches
@@ -68,24 +69,21 @@ pub applying : {o a : ℕ} {b k : Term} {ws : Terms} → Value k → Values ws �
 unfolding enters count
 applying {o} {a} {b} {k} {ws} kv wv e = record {
   ahead = λ w s. comes (called (taken v-fun) (then (taken kv) (taken-all wv)) (counted-fits a (cons k nil) ws e) s) (omega (arith, taken-free images wv));
-  back = λ w r. subst (Onward images o a b w) (counted-fits a (cons k nil) ws e) (uncalled (v-cons kv wv) r);
+  back = λ w r. subst (Entered images o a b w) (counted-fits a (cons k nil) ws e) (uncalled (v-cons kv wv) r);
 }
 
 -- a value is bound
 binding : {v b : Term} → Value v → Leads (bind v b) (sub 0 0 nil (cons v nil) b) 0 1 0
 unfolding count
-binding {v} {b} x = record { ahead = λ w s. comes (bound (taken x) s) (refl, refl, refl); back = λ w r. undo r }
-  where
-    undo : {w : Term} → Run images (bind v b) w → Run images (sub 0 0 nil (cons v nil) b) w
-    undo {w} (bound r s) = subst (λ x. Run images (sub 0 0 nil (cons x nil) b) w) (same-run r (taken x) .0) s
+binding x = record { ahead = λ w s. comes (bound (taken x) s) (refl, refl, refl); back = λ w r. unbound x r }
 
 -- a constructor value takes an arm
 taking : {t : ℕ} {b : Term} {vs : Terms} {ps : Arms} → Values vs → took t (size vs) ps ≡ some b → Leads (cases (con t vs) ps) (sub 0 0 nil (rev vs nil) b) 0 0 1
 unfolding count
-taking {t} {b} {vs} {ps} vv y = record { ahead = λ w s. comes (matched (taken (v-con vv)) y s) (refl, refl, refl); back = λ w r. undo r }
-  where
-    undo : {w : Term} → Run images (cases (con t vs) ps) w → Run images (sub 0 0 nil (rev vs nil) b) w
-    undo {w} (matched r k s) = subst (λ x. Run images x w) (match-same ps k y (same-run r (taken (v-con vv)) .0)) s
+taking {vs} vv y = record {
+  ahead = λ w s. comes (matched (taken (v-con vv)) y s) (refl, refl, refl);
+  back = λ w r. subst (Chosen images vs w) y (unmatched vv r);
+}
 
 -- a function that wants only a continuation is given it
 pub enter : {b k : Term} → Value k → Leads (to (lam b) k) (sub 0 0 (cons k nil) nil b) 1 0 0
