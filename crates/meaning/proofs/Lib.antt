@@ -1,11 +1,12 @@
 pub mod Scopes
 pub mod Compose
-pub mod Converse
 pub mod Forms
 pub mod Commute
 pub mod Values
 pub mod Steps
 pub mod Simulation
+pub mod Converse
 pub mod Source
 pub mod Promises
 pub mod Worked
+pub mod Unfinished

@@ -1,12 +1,20 @@
 -- The promises of specs/Promises.antt, each under its name. Assumes nothing.
-use mathlib.Core.Path.{_≡_, refl, ap, ap₂}
-use Rattle.language.specs.Term.{Term, Terms, con, cons}
-use Rattle.language.specs.Image.{carried, carrieds}
+use Prim.Native.Nat.{ℕ}
+use mathlib.Core.Path.{_≡_, refl, sym, ap, ap₂, _∙_}
+use mathlib.Core.Logic.{_↔_}
+use Rattle.language.specs.Term.{rules, Term, Terms, con, cons}
+use Rattle.language.specs.Scope.{Scoped}
+use Rattle.language.specs.Image.{carried, carrieds, image}
+use Rattle.language.proofs.Determinism.{same-run}
 use Rattle.trust.proofs.Accepted.{accepted-rule, accepted-are-rules}
 use Rattle.sizes.proofs.Promises.{seven-times}
-use Rattle.meaning.specs.Promises.{Plain, Plainᵗ, p-con, p-nil, p-cons, PlainIsCarried, RunsAreDetermined, Demand3, Demand3OfWords, SevenTimesOfWords}
+use Rattle.meaning.specs.Promises.{Plain, Plainᵗ, p-con, p-nil, p-cons, PlainIsCarried, RunsAreDetermined, Demand3, Demand3OfWords}
+use Rattle.meaning.specs.Promises.{Comes, Finishes, FromRule, Converse, ConverseOfWords, ExactlyWhen, NoDecision, SevenTimesOfWords}
+use Rattle.meaning.proofs.Values.{run-value}
+use Rattle.meaning.proofs.Steps.{adjust}
 use Rattle.meaning.proofs.Simulation.{image-comes}
-use Rattle.language.proofs.Determinism.{same-run}
+use Rattle.meaning.proofs.Converse.{rule-comes}
+use Rattle.meaning.proofs.Source.{same-carried}
 
 mutual
   unfolding carried
@@ -31,6 +39,40 @@ demand3 t v h r =
 
 pub demand3-of-words : Demand3OfWords
 demand3-of-words ws t v e r = demand3 t v ((accepted-rule ws t e) .closed) r
+
+-- an image comes to one value, with one number of calls, of lets and of matches
+same-numbers : {t w w' : Term} {n l m n' l' m' : ℕ} → Comes t w n l m → Comes t w' n' l' m' → (w ≡ w') × (n ≡ n') × (l ≡ l') × (m ≡ m')
+same-numbers r s =
+    let (p, q) = same-run (r .run) (s .run) in
+    (p, sym (r .in-calls) ∙ ap (λ c. c .calls) q ∙ s .in-calls, sym (r .in-lets) ∙ ap (λ c. c .lets) q ∙ s .in-lets, sym (r .in-matches) ∙ ap (λ c. c .matches) q ∙ s .in-matches)
+
+-- the rule comes to a value, and by demand 3 the image to that value's carried form, with demand 3's numbers: these are the image's one value and its
+-- numbers
+pub converse : Converse
+converse t w n l m h s =
+    let r = rule-comes h (s .run) in
+    let (same, in-calls, in-lets, in-matches) = same-numbers (image-comes (r .run) h) s in
+    (r .value, sym same, record { run = r .run; in-calls = in-calls; in-lets = in-lets; in-matches = in-matches })
+
+pub converse-of-words : ConverseOfWords
+converse-of-words ws t w n l m e s = converse t w n l m ((accepted-rule ws t e) .closed) s
+
+-- both halves, for whatever the image comes to
+pub both-ways : (t w : Term) (n l m : ℕ) → Scoped rules 0 0 t → FromRule t w n l m ↔ Comes (image t) w n l m
+both-ways t w n l m h = (ahead, converse t w n l m h)
+  where
+    ahead : FromRule t w n l m → Comes (image t) w n l m
+    ahead (v, same, f) = rw same (adjust (image-comes (f .run) h) (f .in-calls, f .in-lets, f .in-matches))
+
+-- for the carried form of v the value that the rule comes to is v, as both have that carried form
+pub exactly-when : ExactlyWhen
+exactly-when ws t v n l m e x = let p = both-ways t (carried v) n l m ((accepted-rule ws t e) .closed) in (λ f. p .0 (v, refl, f), λ s. back (p .1 s))
+  where
+    back : FromRule t (carried v) n l m → Finishes t v n l m
+    back (v', same, f) = rw (same-carried x (run-value (f .run)) same) f
+
+pub no-decision : NoDecision
+no-decision ws t e none w s = let r = rule-comes ((accepted-rule ws t e) .closed) s in none (r .value) (r .run)
 
 pub seven-times-of-words : SevenTimesOfWords
 seven-times-of-words ws t e = rw (accepted-are-rules ws t e .0) (seven-times t)

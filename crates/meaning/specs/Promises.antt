@@ -1,12 +1,13 @@
--- What a reader may rely on of an image's run: document 01, "The image" and "How a rule runs"; demand 3.
+-- What a reader may rely on of an image's run: document 01, "The image" and "How a rule runs"; demand 3; document 02, Wish 10.
 use Prim.Native.Nat.{ℕ, _+_, _*_, _≤_}
 use mathlib.Core.Path.{_≡_}
+use mathlib.Core.Logic.{_↔_}
 use mathlib.Core.List.{List}
 use lib.ListN.{length}
 use Rattle.language.specs.Term.{Lang, rules, images, Term, Terms, con, nil, cons}
 use Rattle.language.specs.Words.{words}
 use Rattle.language.specs.Scope.{Scoped}
-use Rattle.language.specs.Run.{Counts, Run, count}
+use Rattle.language.specs.Run.{Value, Counts, Run, count}
 use Rattle.language.specs.Image.{image, carried}
 use Rattle.language.specs.Read.{read, accepted}
 
@@ -54,6 +55,36 @@ Demand3 = (t v : Term) → Scoped rules 0 0 t → (r : Run rules t v) → Kept t
 -- demand 3 of words: for every sequence of words that is accepted as a rule
 abbrev pub Demand3OfWords : Type 0
 Demand3OfWords = (ws : List ℕ) (t v : Term) → read ws ≡ accepted t → (r : Run rules t v) → Kept t v (count r)
+
+-- `Finishes t v n l m`: the rule t comes to v, and demand 3's numbers for that run are n applications, l lets and m matches
+pub record Finishes (t v : Term) (n l m : ℕ) : Type 0 where
+  pub run : Run rules t v
+  pub in-calls : applications (count run) ≡ n
+  pub in-lets : (count run) .lets ≡ l
+  pub in-matches : (count run) .matches ≡ m
+
+-- w is the carried form of a value that the rule t comes to, with these numbers
+abbrev pub FromRule : Term → Term → ℕ → ℕ → ℕ → Type 0
+FromRule t w n l m = (v : Term) × (w ≡ carried v) × Finishes t v n l m
+
+-- document 02, Wish 10, of terms: "if the image .. comes to a value, then the rule does, and the image's value is the carried form of the rule's";
+-- and the image's numbers are demand 3's of the rule's run
+abbrev pub Converse : Type 0
+Converse = (t w : Term) (n l m : ℕ) → Scoped rules 0 0 t → Comes (image t) w n l m → FromRule t w n l m
+
+-- Wish 10 of words: "the image of an accepted rule"
+abbrev pub ConverseOfWords : Type 0
+ConverseOfWords = (ws : List ℕ) (t w : Term) (n l m : ℕ) → read ws ≡ accepted t → Comes (image t) w n l m → FromRule t w n l m
+
+-- demand 3 and its other half in one: an accepted rule comes to the value v with demand 3's numbers exactly when its image comes to v's carried form
+-- with these numbers
+abbrev pub ExactlyWhen : Type 0
+ExactlyWhen = (ws : List ℕ) (t v : Term) (n l m : ℕ) → read ws ≡ accepted t → Value v → Finishes t v n l m ↔ Comes (image t) (carried v) n l m
+
+-- "So a controller can't report a decision for a rule that the bench finds stuck or endless": an accepted rule that comes to no value has an
+-- image that comes to none
+abbrev pub NoDecision : Type 0
+NoDecision = (ws : List ℕ) (t : Term) → read ws ≡ accepted t → ((v : Term) → Run rules t v → ⊥) → (w : Term) → Run images (image t) w → ⊥
 
 -- "Its length in words, for a rule of w words, is at most 7w."
 abbrev pub SevenTimesOfWords : Type 0

@@ -1,12 +1,14 @@
 -- The worked rules A to G of document 01 and those of document 02's Wishes 3, 4 and 5, run as rules and as images: one table, and the one claim that its numbers are those of both runs.
+-- And rules that come to no value (Wish 10).
+use Prim.Native.Nat.{ℕ}
 use mathlib.Core.Path.{_≡_}
-use mathlib.Core.List.{List, _∷_, map}
+use mathlib.Core.List.{List, [], _∷_, map}
 use Rattle.language.specs.Term.{rules, Term}
 use Rattle.language.specs.Words.{words}
 use Rattle.language.specs.Run.{Counts, uses, Run, count}
 use Rattle.language.specs.Image.{image, carried}
 use Rattle.language.specs.Read.{read, accepted}
-use Rattle.language.specs.Cases.{Each, Example, caseA, caseB, caseC, caseD, caseE, caseF, caseG, nested, passesFifteen, turnsFifteen, buildsFifteen, requests}
+use Rattle.language.specs.Cases.{Each, Example, caseA, caseB, caseC, caseD, caseE, caseF, caseG, nested, passesFifteen, turnsFifteen, buildsFifteen, requests, NoValue}
 use Rattle.meaning.specs.Promises.{applications, Comes}
 
 -- an example, and how often its run uses each rule
@@ -48,3 +50,25 @@ pub record Agrees (x : Row) : Type 0 where
 -- the one claim
 abbrev pub WorkedRuns : Type 0
 WorkedRuns = Each Agrees ran
+
+-- Wish 10: rules that are accepted and come to no value, beside those that call with too few or too many arguments: a constructor is called; a function
+-- is matched; a request in its short form meets an arm for the long one alone; a recursive function calls itself for ever; and a constructor is
+-- built of such a call
+abbrev calledConstructor : List ℕ
+calledConstructor = 0x0401 ∷ 0x0600 ∷ 0x0000 ∷ 0x0601 ∷ 0x0000 ∷ []
+
+abbrev matchedFunction : List ℕ
+matchedFunction = 0x0701 ∷ 0x0201 ∷ 0x0100 ∷ 0x0800 ∷ 0x0000 ∷ 0x0601 ∷ 0x0000 ∷ []
+
+abbrev noArm : List ℕ
+noArm = 0x0701 ∷ 0x0605 ∷ 0x0000 ∷ 0x0805 ∷ 0x0001 ∷ 0x0100 ∷ []
+
+abbrev endless : List ℕ
+endless = 0x0401 ∷ 0x0301 ∷ 0x0401 ∷ 0x0101 ∷ 0x0100 ∷ 0x0600 ∷ 0x0000 ∷ []
+
+abbrev pub withoutValue : List (List ℕ)
+withoutValue = calledConstructor ∷ matchedFunction ∷ noArm ∷ endless ∷ (0x0601 ∷ 0x0001 ∷ endless) ∷ []
+
+-- the one claim of them
+abbrev pub WorkedWithoutValue : Type 0
+WorkedWithoutValue = Each (λ ws. NoValue (read ws)) withoutValue

@@ -20,7 +20,7 @@ use Rattle.language.proofs.Clash.{never}
 use Rattle.trust.proofs.Accepted.{accepted-are-rules, accepted-rule}
 use Rattle.trust.proofs.Ranges.{images-in-range}
 use Rattle.trust.proofs.Unique.{words-determine}
-use Rattle.meaning.proofs.Promises.{demand3-of-words}
+use Rattle.meaning.proofs.Promises.{both-ways}
 use Rattle.reading.specs.Answers.{checkedReply}
 use Rattle.reading.proofs.Answers.{same-checked, same-answer}
 use Rattle.rules.specs.Contracts.{check, measure, write, pack, unpack, Allows}
@@ -95,16 +95,17 @@ front ws out o n t q h = go refl (demand1 ws out o (Count n) h)
         rw (p, ← z, ← y) (sym (take-at (words images (image u)) (drop m out) m (sym e)))
 
 pub written-runs : WrittenRuns
-written-runs ws out o n t v q r h =
+written-runs ws out o n t q h =
     let f = front ws out o n t q h in
-    let g = images-in-range t ((accepted-rule ws t q) .ranged) in (
+    let rule = accepted-rule ws t q in
+    let g = images-in-range t (rule .ranged) in (
       record {
         term = image t;
         ranged = g;
         laid = f;
         only = λ u k e. words-determine images u (image t) k g (e ∙ sym f);
       },
-      (demand3-of-words ws t v q r) .comes,
+      λ w a l m. both-ways t w a l m (rule .closed),
     )
 
 -- words that were accepted are those of a rule, whose arms can all be taken, and of no other term; so they are refused, and no call succeeds

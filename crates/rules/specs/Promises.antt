@@ -1,18 +1,18 @@
 -- What a reader may rely on: demands 1 and 2, and the way from the words lent to demand 3's run, each of whatever outcome the contracts allow.
 use Prim.Native.Nat.{ℕ, _<_, _≤_}
 use mathlib.Core.Path.{_≡_}
+use mathlib.Core.Logic.{_↔_}
 use mathlib.Core.List.{List, _++_}
 use lib.ListN.{length, take, drop}
 use Rattle.language.specs.Term.{rules, images, Term}
 use Rattle.language.specs.Words.{words}
 use Rattle.language.specs.Limits.{Ranged}
-use Rattle.language.specs.Run.{Run, count}
 use Rattle.language.specs.Dead.{Live}
-use Rattle.language.specs.Image.{image, carried}
+use Rattle.language.specs.Image.{image}
 use Rattle.language.specs.Read.{noPlace, read, accepted, refused}
 use Rattle.language.specs.declared.Answer.{Answer}
 use Rattle.language.specs.declared.Answer.the-variants.{Count, Refusal}
-use Rattle.meaning.specs.Promises.{applications, Comes}
+use Rattle.meaning.specs.Promises.{Comes, FromRule}
 use Rattle.reading.specs.declared.Checked.the-variants.{Success}
 use Rattle.rules.specs.Contracts.{Call, check, measure, write, Result, Allows}
 
@@ -42,8 +42,9 @@ pub record Written (t : Term) (out o : List ℕ) (a : Answer) : Type 0 where
 abbrev pub Demand2 : Type 0
 Demand2 = (ws out o : List ℕ) (a : Answer) (t : Term) → read ws ≡ accepted t → Allows (write ws out) (a, o) → Written t out o a
 
--- from the words lent to demand 3's run: where the rule comes to a value, the words at the front of the output are those of one term in an
--- image's ranges alone, and that term comes to the value's carried form, with as many lets and matches and the sum's applications
+-- from the words lent to the run, demand 3 and document 02, Wish 10: the words at the front of the output are those of one term in an image's ranges
+-- alone, and that term comes to w exactly when the rule comes to a value with the carried form w, with as many lets and matches and the sum's
+-- applications
 pub record Front (ws : List ℕ) : Type 0 where
   pub term : Term
   pub ranged : Ranged images term
@@ -52,8 +53,8 @@ pub record Front (ws : List ℕ) : Type 0 where
 
 abbrev pub WrittenRuns : Type 0
 WrittenRuns =
-    (ws out o : List ℕ) (n : ℕ) (t v : Term) → read ws ≡ accepted t → (r : Run rules t v) → Allows (write ws out) (Count n, o)
-    → (f : Front (take n o)) × Comes (f .term) (carried v) (applications (count r)) ((count r) .lets) ((count r) .matches)
+    (ws out o : List ℕ) (n : ℕ) (t : Term) → read ws ≡ accepted t → Allows (write ws out) (Count n, o)
+    → (f : Front (take n o)) × ((w : Term) (a l m : ℕ) → FromRule t w a l m ↔ Comes (f .term) w a l m)
 
 -- document 02, Wish 4: "Refuse such rules." No public call accepts the words of a term with a dead arm: none succeeds on them
 pub record NoneAccepts (ws : List ℕ) : Type 0 where
