@@ -5,7 +5,7 @@ use Prim.Native.Nat.{ℕ, zero, suc}
 use mathlib.Core.Bool.{Bool, true, false}
 use mathlib.Core.Path.{_≡_, refl}
 use mathlib.Core.Option.{Option, some, none as nothing}
-use Rattle.language.specs.Term.{Lang, rules, images, Term, Terms, Arms, var, kvar, fun, call, bind, con, cases, nil, cons, size}
+use Rattle.language.specs.Term.{Lang, Term, Terms, Arms, var, kvar, fun, call, bind, con, cases, nil, cons, size}
 use Rattle.language.specs.Sub.{sub}
 use Rattle.language.specs.Run.{atoms, Value, Values, v-fun, v-con, v-nil, v-cons, enters, rev, itself, took, Run, Runs, taken, built, bound, called, matched, done, then}
 

@@ -1,8 +1,7 @@
 -- The rules that call a function with too few or too many arguments come to no value, and neither do their images: each run is followed, call by
 -- call, to the call that nothing goes in for. Assumes nothing.
 use Prim.Native.Nat.{ℕ}
-use mathlib.Core.Path.{_≡_}
-use Rattle.language.specs.Term.{Terms, fun, con, nil, cons, size}
+use Rattle.language.specs.Term.{Term, con, nil, cons, size}
 use Rattle.language.specs.Sub.{sub}
 use Rattle.language.specs.Run.{atom, Value, Values, v-fun, v-con, v-nil, v-cons, enters, rev, itself}
 use Rattle.language.specs.Image.{downto, passing, image}
@@ -12,8 +11,8 @@ use Rattle.language.specs.Read.{then, made, second, many, unlike, armsOf
 use Rattle.language.specs.Cases.{WorkedStuck}
 use Rattle.language.proofs.Back.{uncalled}
 
--- a value alone, and one before another
-alone : {v : _} → Value v → Values (cons v nil)
+-- a value alone; and a constructor without arguments, which is a value
+alone : {v : Term} → Value v → Values (cons v nil)
 alone x = v-cons x v-nil
 
 plain : {t : ℕ} → Value (con t nil)

@@ -1,6 +1,6 @@
 -- The worked rules A to N of document 01, "Worked rules", in one table, and what is claimed of each of them; refusals with their places (document 02,
--- Wish 1); matches on a short and a long form of one tag (Wish 3); dead arms (Wish 4); fifteen arguments (Wish 5). (Case O and larger rules are run by
--- a program.)
+-- Wish 1); matches on a short and a long form of one tag (Wish 3); dead arms (Wish 4); fifteen arguments (Wish 5); calls that are stuck (Wish 10). (Case O and
+-- larger rules are run by a program.)
 use Prim.Native.Nat.{ℕ}
 use mathlib.Core.List.{List, [], _∷_, _++_, map}
 use mathlib.Core.Option.{Option, some, none}
@@ -227,8 +227,8 @@ Each P (a ∷ more) = P a × Each P more
 abbrev pub WorkedRules : Type 0
 WorkedRules = Each Meets worked
 
--- Wish 10: a function of two arguments that is called with one, and a function of one that is called with two. They are accepted, and not "a function
--- with exactly that many arguments" is called
+-- Wish 10: a function of two arguments that is called with one, and a function of one that is called with two. Both rules are accepted; neither calls
+-- "a function with exactly that many arguments"
 abbrev tooFew : List ℕ
 tooFew = 0x0401 ∷ 0x0202 ∷ 0x0600 ∷ 0x0000 ∷ 0x0601 ∷ 0x0000 ∷ []
 

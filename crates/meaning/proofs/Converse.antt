@@ -1,7 +1,7 @@
--- A run of the image of a closed rule is of a run of the rule: the other half of demand 3, document 02, Wish 10. By induction on the number of calls of
--- the image's run, case by case over the term: its passing form is given a continuation, by a call; so its parts have runs of fewer calls
--- each, and by induction the rule's parts come to values; by the simulation the image's run goes on with the ending, which runs only where the rule's
--- own rule applies, and by induction the body comes to a value. Assumes nothing.
+-- Where the image of a closed rule comes to a value, the rule does: the other half of demand 3, document 02, Wish 10. By induction on the number of
+-- calls of the image's run, case by case over the term. Its passing form is given a continuation, by a call; so the parts have fewer calls left,
+-- and by induction they come to values. By the simulation the image's run goes on with the chain's ending, which runs only where the rule for the term
+-- applies; then the body has fewer calls left too, and by induction comes to a value. Assumes nothing.
 use Prim.Native.Nat.{ℕ, zero, suc, _+_, _≤_, _<_}
 use mathlib.Core.Bool.{Bool, true, false, false≢true, and-eq-true-iff}
 use mathlib.Core.Path.{_≡_, refl, sym, _∙_, subst}
@@ -12,16 +12,15 @@ use Rattle.language.specs.Scope.{Scoped, Scopedᵗ, Scopedᵃ, s-var, s-kvar, s
 use Rattle.language.specs.Sub.{sub, subᵃ}
 use Rattle.language.specs.Run.{atom, atoms, Value, Values, v-fun, v-con, v-nil, v-cons, enters, rev, took, count}
 use Rattle.language.specs.Run.{Run, Runs, taken, built, bound, called, matched, done, then}
-use Rattle.language.specs.Image.{lam, to, calling, making, passing, carried, carrieds, chain, passingᵃ, image}
-use Rattle.language.proofs.Forms.{passing-build, size-carrieds, counted-fits}
-use Rattle.language.proofs.Eval.{Ran, Rans}
-use Rattle.meaning.proofs.Forms.{letting, matching, k-scoped, calling-scoped, making-scoped, letting-scoped, matching-scoped}
-use Rattle.meaning.proofs.Forms.{carrieds-values, carried-scoped, passing-scoped, passingᵃ-scoped}
-use Rattle.meaning.proofs.Values.{run-value, runs-values, runs-size, in-values}
-use Rattle.meaning.proofs.Values.{let-scoped, arm-scoped, call-scoped, run-scoped, runs-scoped}
+use Rattle.language.specs.Image.{lam, to, calling, passing, carried, carrieds, chain, passingᵃ, image}
+use Rattle.language.proofs.Forms.{size-carrieds, counted-fits}
 use Rattle.language.proofs.Back.{uncalled, entered-fits, no-call, Chosen, unmatched, no-match}
+use Rattle.language.proofs.Eval.{Ran, Rans}
+use Rattle.meaning.proofs.Forms.{letting, matching, k-scoped, carrieds-values, carried-scoped}
+use Rattle.meaning.proofs.Values.{run-value, runs-values, runs-size}
+use Rattle.meaning.proofs.Values.{let-scoped, arm-scoped, call-scoped, run-scoped, runs-scoped}
 use Rattle.meaning.proofs.Steps.{Leads, fewer, stay, enter, calling-sub, took-image, end-called, end-bound, end-matched}
-use Rattle.meaning.proofs.Simulation.{chain-k, chain-step, through, simulated, simulatedᵗ}
+use Rattle.meaning.proofs.Simulation.{chain-k, chain-step, Linked, linked-build, linked-let, linked-call, linked-match, through, simulated, simulatedᵗ}
 
 -- the image t comes to w by fewer than g calls
 record Under (t w : Term) (g : ℕ) : Type 0 where
@@ -73,14 +72,13 @@ chain-back back {ks} {z} {w} (s-cons {t} {ts} ht hs) hk hz h u =
     (back t (sub 1 0 ks nil (chain ts z)) w ht (chain-k hk hs hz h) (rw (stay ht ks nil 0 0 (omega arith)) at u))
     (λ v hv x. chain-back back hs (s-cons hv hk) hz (omega arith) x)
 
--- a term whose passing form is the chain over its parts with the ending z: the parts come to values, and the ending runs
-parts-back : {g : ℕ} → Back g → (t z : Term) {ts : Terms} {p w : Term} {i : ℕ} → passing t ≡ lam (chain ts z) → Scopedᵗ rules 0 0 ts
-    → Scoped images i 0 z → i ≤ suc (size ts) → Scoped images 1 0 p → Under (to (passing t) (lam p)) w (suc g)
-    → (r : Rans rules ts) × Under (sub 0 0 (rev (carrieds (r .values)) (cons (lam p) nil)) nil z) w g
+-- the parts of a term come to values, and the ending runs
+parts-back : {g : ℕ} → Back g → {t z p w : Term} {ts : Terms} → Linked t ts z → Scopedᵗ rules 0 0 ts → Scoped images 1 0 p
+    → Under (to (passing t) (lam p)) w (suc g) → (r : Rans rules ts) × Under (sub 0 0 (rev (carrieds (r .values)) (cons (lam p) nil)) nil z) w g
 unfolding size
-parts-back back t z e hs hz h hp u =
-    let r = chain-back back hs (s-cons (s-fun hp) s-nil) hz (omega arith) (follow (enter v-fun) (rw e at u) (omega arith)) in
-    (r, follow (through t z e (simulatedᵗ (r .runs) hs) hz h hp) u (omega arith))
+parts-back back k hs hp u =
+    let r = chain-back back hs (s-cons (s-fun hp) s-nil) (k .ends) (omega arith) (follow (enter v-fun) (rw (k .passes) at u) (omega arith)) in
+    (r, follow (through k (simulatedᵗ (r .runs) hs) hp) u (omega arith))
 
 -- what the body comes to, the term comes to
 last : {t t' : Term} → ((v : Term) → Run rules t' v → Run rules t v) → Ran rules t' → Ran rules t
@@ -138,26 +136,17 @@ match-back {m} {p} {w} {ps} {g} back hm hs hp (then r done) u = go (run-value r)
 con-back : {p w : Term} {t : ℕ} {ps : Terms} {g : ℕ} → Back g → (e : Bool) → atoms ps ≡ e → Scopedᵗ rules 0 0 ps → Scoped images 1 0 p
     → Under (to (passing (con t ps)) (lam p)) w (suc g) → Ran rules (con t ps)
 con-back back true e hs hp u = record { value = _; run = taken (v-con (closed-values hs refl e)) }
-con-back {t} {ps} back false e hs hp u =
-    let r = parts-back back (con t ps) (making t (size ps)) (passing-build t ps e) hs (making-scoped t (size ps)) (omega arith) hp u .0 in
-    record { value = con t (r .values); run = built e (r .runs) }
+con-back {t} back false e hs hp u = let r = parts-back back (linked-build t e) hs hp u .0 in record { value = con t (r .values); run = built e (r .runs) }
 
 back : (g : ℕ) → Back g
-unfolding passing chain size
 back zero t p w h hp u = absurd (omega (arith, u .below))
 back (suc g) (var i) p w (s-var h) hp u = absurd (omega arith)
 back (suc g) (kvar i) p w (s-kvar l h) hp u = absurd l
 back (suc g) (fun o a b) p w h hp u = record { value = fun o a b; run = taken v-fun }
-back (suc g) (call f ps) p w (s-call hf hs) hp u =
-    let (r, v) = parts-back (back g) (call f ps) (calling (size ps)) refl (s-cons hf hs) (calling-scoped (size ps)) (omega arith) hp u in
-    call-back (back g) hf hs hp (r .runs) v
-back (suc g) (bind m b) p w (s-bind hm hb) hp u =
-    let (r, v) = parts-back (back g) (bind m b) (letting (passing b)) refl (s-cons hm s-nil) (letting-scoped 0 0 (passing-scoped hb 2 1 (omega arith))) (omega arith) hp u in
-    let-back (back g) hm hb hp (r .runs) v
+back (suc g) (call f ps) p w (s-call hf hs) hp u = let (r, k) = parts-back (back g) (linked-call f ps) (s-cons hf hs) hp u in call-back (back g) hf hs hp (r .runs) k
+back (suc g) (bind m b) p w (s-bind hm hb) hp u = let (r, k) = parts-back (back g) (linked-let m hb) (s-cons hm s-nil) hp u in let-back (back g) hm hb hp (r .runs) k
 back (suc g) (con t ps) p w (s-con hs) hp u = con-back (back g) (atoms ps) refl hs hp u
-back (suc g) (cases m ps) p w (s-cases hm hs) hp u =
-    let (r, v) = parts-back (back g) (cases m ps) (matching (passingᵃ ps)) refl (s-cons hm s-nil) (matching-scoped 0 0 (passingᵃ-scoped hs 0 0 (omega arith))) (omega arith) hp u in
-    match-back (back g) hm hs hp (r .runs) v
+back (suc g) (cases m ps) p w (s-cases hm hs) hp u = let (r, k) = parts-back (back g) (linked-match m hs) (s-cons hm s-nil) hp u in match-back (back g) hm hs hp (r .runs) k
 
 -- the image gives the passing form the continuation that returns its argument
 pub rule-comes : {t w : Term} → Scoped rules 0 0 t → Run images (image t) w → Ran rules t

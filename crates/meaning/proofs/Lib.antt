@@ -6,7 +6,7 @@ pub mod Values
 pub mod Steps
 pub mod Simulation
 pub mod Converse
-pub mod Source
+pub mod Undo
 pub mod Promises
 pub mod Worked
 pub mod Unfinished

@@ -14,7 +14,7 @@ use Rattle.meaning.proofs.Values.{run-value}
 use Rattle.meaning.proofs.Steps.{adjust}
 use Rattle.meaning.proofs.Simulation.{image-comes}
 use Rattle.meaning.proofs.Converse.{rule-comes}
-use Rattle.meaning.proofs.Source.{same-carried}
+use Rattle.meaning.proofs.Undo.{same-carried}
 
 mutual
   unfolding carried
@@ -43,8 +43,12 @@ demand3-of-words ws t v e r = demand3 t v ((accepted-rule ws t e) .closed) r
 -- an image comes to one value, with one number of calls, of lets and of matches
 same-numbers : {t w w' : Term} {n l m n' l' m' : ℕ} → Comes t w n l m → Comes t w' n' l' m' → (w ≡ w') × (n ≡ n') × (l ≡ l') × (m ≡ m')
 same-numbers r s =
-    let (p, q) = same-run (r .run) (s .run) in
-    (p, sym (r .in-calls) ∙ ap (λ c. c .calls) q ∙ s .in-calls, sym (r .in-lets) ∙ ap (λ c. c .lets) q ∙ s .in-lets, sym (r .in-matches) ∙ ap (λ c. c .matches) q ∙ s .in-matches)
+    let (p, q) = same-run (r .run) (s .run) in (
+      p,
+      sym (r .in-calls) ∙ ap (λ c. c .calls) q ∙ s .in-calls,
+      sym (r .in-lets) ∙ ap (λ c. c .lets) q ∙ s .in-lets,
+      sym (r .in-matches) ∙ ap (λ c. c .matches) q ∙ s .in-matches,
+    )
 
 -- the rule comes to a value, and by demand 3 the image to that value's carried form, with demand 3's numbers: these are the image's one value and its
 -- numbers

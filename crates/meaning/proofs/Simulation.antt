@@ -1,6 +1,6 @@
 -- A run of a closed rule is a run of its image: lemma 5 of Dargaye and Leroy, with counts. The passing form of a term, given a closed
--- continuation, comes to what the continuation comes to when it is given the carried form of the term's value. One lemma for each rule of
--- the relation, each over what is known of the parts' runs; then an induction on the run. Assumes nothing.
+-- continuation, goes on as what the continuation is when it is given the carried form of the term's value. One lemma for each rule of the relation,
+-- each over what is known of the parts' runs; then an induction on the run. Assumes nothing.
 use Prim.Native.Nat.{ℕ, suc, _+_, _≤_}
 use mathlib.Core.Bool.{false}
 use mathlib.Core.Path.{_≡_, refl}
@@ -18,7 +18,7 @@ use Rattle.meaning.proofs.Scopes.{sub-scoped}
 use Rattle.meaning.proofs.Compose.{join, sub-twice}
 use Rattle.meaning.proofs.Forms.{letting, matching, k-scoped, calling-scoped, making-scoped, letting-scoped, matching-scoped}
 use Rattle.meaning.proofs.Forms.{carried-value, carried-scoped, passing-scoped, passingᵃ-scoped, chain-scoped}
-use Rattle.meaning.proofs.Values.{run-value, runs-values, runs-size, in-con, in-values}
+use Rattle.meaning.proofs.Values.{run-value, runs-values, runs-size, in-values}
 use Rattle.meaning.proofs.Values.{let-scoped, arm-scoped, call-scoped, run-scoped, runs-scoped}
 use Rattle.meaning.proofs.Steps.{Leads, onward, recount, stays, adjust, stay, enter, on-value, end-built, end-called, end-bound, end-matched}
 
@@ -67,14 +67,33 @@ sim-then {v} ht hs hv s ss = record {
       (ss .given (cons (carried v) ks) z i (s-cons (carried-scoped hv 0 0 (omega arith)) hk) hz (omega arith))) (omega arith);
 }
 
--- a term whose passing form is the chain over its parts with the ending z: the passing form is given the continuation, the parts come to
--- values, and the ending is left
-pub through : (t z : Term) {ts vs : Terms} {c : Counts} {p : Term} {i : ℕ} → passing t ≡ lam (chain ts z) → Simulatedᵗ ts vs c
-    → Scoped images i 0 z → i ≤ suc (size ts) → Scoped images 1 0 p
+-- `Linked t ts z`: t's passing form is the chain over its parts ts with the ending z, which names the chain's variables and the continuation alone
+pub record Linked (t : Term) (ts : Terms) (z : Term) : Type 0 where
+  pub passes : passing t ≡ lam (chain ts z)
+  pub ends : Scoped images (suc (size ts)) 0 z
+
+pub linked-build : (t : ℕ) {ps : Terms} → atoms ps ≡ false → Linked (con t ps) ps (making t (size ps))
+linked-build t {ps} e = record { passes = passing-build t ps e; ends = making-scoped t (size ps) }
+
+pub linked-let : (m : Term) {b : Term} → Scoped rules 0 1 b → Linked (bind m b) (cons m nil) (letting (passing b))
+unfolding passing size
+linked-let m hb = record { passes = refl; ends = letting-scoped 0 0 (passing-scoped hb 2 1 (omega arith)) }
+
+pub linked-call : (f : Term) (ps : Terms) → Linked (call f ps) (cons f ps) (calling (size ps))
+unfolding passing size
+linked-call f ps = record { passes = refl; ends = calling-scoped (size ps) }
+
+pub linked-match : (m : Term) {ps : Arms} → Scopedᵃ rules 0 0 ps → Linked (cases m ps) (cons m nil) (matching (passingᵃ ps))
+unfolding passing size
+linked-match m hs = record { passes = refl; ends = matching-scoped 0 0 (passingᵃ-scoped hs 0 0 (omega arith)) }
+
+-- the passing form is given the continuation, the parts come to values, and the ending is left
+pub through : {t z p : Term} {ts vs : Terms} {c : Counts} → Linked t ts z → Simulatedᵗ ts vs c → Scoped images 1 0 p
     → Leads (to (passing t) (lam p)) (sub 0 0 (rev (carrieds vs) (cons (lam p) nil)) nil z) (suc (applications c)) (c .lets) (c .matches)
 unfolding size
-through t z {p} {i} e ss hz h hp =
-    rw e (recount (onward (enter v-fun) (ss .given (cons (lam p) nil) z i (s-cons (s-fun hp) s-nil) hz (omega arith))) (omega arith))
+through {z} {p} {ts} k ss hp =
+    rw (k .passes)
+    (recount (onward (enter v-fun) (ss .given (cons (lam p) nil) z (suc (size ts)) (s-cons (s-fun hp) s-nil) (k .ends) (omega arith))) (omega arith))
 
 -- the rules of the relation, one by one
 sim-taken : {v : Term} → Value v → Scoped rules 0 0 v → Simulated v v (uses 1 0 0 0 0)
@@ -82,41 +101,32 @@ sim-taken x h = record { given = λ p hp. on-value x h }
 
 sim-built : {t : ℕ} {ps vs : Terms} {c : Counts} → atoms ps ≡ false → size vs ≡ size ps → Values vs
     → Simulatedᵗ ps vs c → Simulated (con t ps) (con t vs) (uses 0 0 0 0 1 ⊕ c)
-sim-built {t} {ps} {vs} e q vv ss = record {
-  given = λ p hp.
-      recount (onward (through (con t ps) (making t (size ps)) (passing-build t ps e) ss (making-scoped t (size ps)) (omega arith) hp)
-      (end-built p t vs q vv)) (omega arith);
-}
+sim-built {t} {vs} e q vv ss = record { given = λ p hp. recount (onward (through (linked-build t e) ss hp) (end-built p t vs q vv)) (omega arith) }
 
 sim-bound : {m b v w : Term} {c d : Counts} → Scoped rules 0 0 m → Scoped rules 0 1 b → Scoped rules 0 0 v → Value v
     → Simulated m v c → Simulated (sub 0 0 nil (cons v nil) b) w d → Simulated (bind m b) w (uses 0 0 1 0 0 ⊕ c ⊕ d)
-unfolding passing rev carrieds size
-sim-bound {m} {b} hm hb hv x s s' = record {
+unfolding rev carrieds
+sim-bound {m} hm hb hv x s s' = record {
   given = λ p hp.
-      recount (onward (onward (through (bind m b) (letting (passing b)) refl (sim-then hm s-nil hv s sim-done)
-      (letting-scoped 0 0 (passing-scoped hb 2 1 (omega arith))) (omega arith) hp)
-      (end-bound x hb (s-fun hp))) (s' .given p hp)) (omega arith);
+      recount (onward (onward (through (linked-let m hb) (sim-then hm s-nil hv s sim-done) hp) (end-bound x hb (s-fun hp))) (s' .given p hp)) (omega arith);
 }
 
 sim-called : {f b w : Term} {o a : ℕ} {ps vs : Terms} {c d e : Counts} → Scoped rules 0 0 f → Scopedᵗ rules 0 0 ps → Scoped rules 0 0 (fun o a b)
     → Values vs → size vs ≡ size ps → size vs ≡ a → Simulated f (fun o a b) c → Simulatedᵗ ps vs d
     → Simulated (sub 0 0 nil (rev vs (itself o (fun o a b))) b) w e → Simulated (call f ps) w (uses 0 1 0 0 0 ⊕ c ⊕ d ⊕ e)
-unfolding passing rev carrieds size
+unfolding rev carrieds
 sim-called {f} {ps} {vs} hf hs hb vv q q' s ss s' = record {
   given = λ p hp.
-      recount (onward (onward (through (call f ps) (calling (size ps)) refl (sim-then hf hs hb s ss) (calling-scoped (size ps)) (omega arith) hp)
-      (end-called vs q q' v-fun vv hb)) (s' .given p hp)) (omega arith);
+      recount (onward (onward (through (linked-call f ps) (sim-then hf hs hb s ss) hp) (end-called vs q q' v-fun vv hb)) (s' .given p hp)) (omega arith);
 }
 
 sim-matched : {m b w : Term} {t : ℕ} {vs : Terms} {ps : Arms} {c d : Counts} → Scoped rules 0 0 m → Scopedᵃ rules 0 0 ps → Scoped rules 0 0 (con t vs)
     → Values vs → took t (size vs) ps ≡ some b → Simulated m (con t vs) c → Simulated (sub 0 0 nil (rev vs nil) b) w d
     → Simulated (cases m ps) w (uses 0 0 0 1 0 ⊕ c ⊕ d)
-unfolding passing rev carrieds size
+unfolding rev carrieds
 sim-matched {m} {t} {vs} {ps} hm hs hv vv y s s' = record {
   given = λ p hp.
-      recount (onward (onward (through (cases m ps) (matching (passingᵃ ps)) refl (sim-then hm s-nil hv s sim-done)
-      (matching-scoped 0 0 (passingᵃ-scoped hs 0 0 (omega arith))) (omega arith) hp)
-      (end-matched t vs ps y vv hs (s-fun hp))) (s' .given p hp)) (omega arith);
+      recount (onward (onward (through (linked-match m hs) (sim-then hm s-nil hv s sim-done) hp) (end-matched t vs ps y vv hs (s-fun hp))) (s' .given p hp)) (omega arith);
 }
 
 mutual

@@ -10,7 +10,7 @@ use Rattle.language.specs.Term.{Lang, rules, images, Term, Terms, Arms, kvar, f
 use Rattle.language.specs.Scope.{Scoped, Scopedᵃ, s-none, s-arm}
 use Rattle.language.specs.Sub.{look, sub, subᵗ, subᵃ}
 use Rattle.language.specs.Run.{Value, Values, v-fun, v-con, v-nil, v-cons, enters, rev, itself, both, took}
-use Rattle.language.specs.Run.{Run, Runs, taken, bound, called, matched, done, then, Counts, count, counts}
+use Rattle.language.specs.Run.{Run, taken, bound, called, matched, then, Counts, count, counts}
 use Rattle.language.specs.Image.{lam, to, downto, calling, making, passing, carried, carrieds, passingᵃ}
 use Rattle.language.proofs.Forms.{value-atom, size-carrieds, passing-atom, itself-values, counted-fits}
 use Rattle.meaning.specs.Promises.{Comes}
@@ -64,7 +64,7 @@ fewer {w} p r =
     ap (λ c. c .calls) (same-run r (s .run) .1) ∙ s .in-calls
 
 -- the rules of the relation, where all that is to come to a value is one already: a function is called with a continuation and values
-pub applying : {o a : ℕ} {b k : Term} {ws : Terms} → Value k → Values ws → size ws ≡ a
+applying : {o a : ℕ} {b k : Term} {ws : Terms} → Value k → Values ws → size ws ≡ a
     → Leads (call (fun o a b) (cons k ws)) (sub 0 0 (cons k nil) (rev ws (itself o (fun o a b))) b) 1 0 0
 unfolding enters count
 applying {o} {a} {b} {k} {ws} kv wv e = record {

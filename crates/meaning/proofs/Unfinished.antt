@@ -4,7 +4,7 @@ use Prim.Native.Nat.{ℕ}
 use mathlib.Core.Bool.{false≢true}
 use mathlib.Core.Path.{_≡_, refl}
 use mathlib.Core.List.{List, [], _∷_}
-use Rattle.language.specs.Term.{rules, Term, Terms, var, fun, call, con, nil, cons, size}
+use Rattle.language.specs.Term.{rules, Term, var, fun, call, con, nil, cons, size}
 use Rattle.language.specs.Sub.{sub}
 use Rattle.language.specs.Run.{atom, v-fun, v-con, v-nil, v-cons, enters, rev, itself, took, Run, taken, built, bound, called, matched, then}
 use Rattle.language.specs.Kinds.{headOf}

@@ -6,7 +6,7 @@ use mathlib.Core.Bool.{Bool, true, false, cond, false≢true, and-eq-true-iff}
 use mathlib.Core.Path.{_≡_, refl, sym, ap, ap₂, _∙_}
 use Rattle.language.specs.Term.{Term, Terms, Arms, var, kvar, fun, call, bind, con, cases, nil, cons, none, arm, size}
 use Rattle.language.specs.Run.{atom, atoms, Value, rev}
-use Rattle.language.specs.Image.{lam, to, downto, calling, making, passing, carried, carrieds, chain, passingᵃ}
+use Rattle.language.specs.Image.{calling, making, passing, carried, carrieds, chain, passingᵃ}
 use Rattle.language.proofs.Forms.{value-atom}
 
 -- what stands where nothing can have been
