@@ -61,9 +61,7 @@ struct both_runs run_both(struct arena *arena, struct word_list rule)
         return runs;
     runs.image = image_words(arena, reading.term);
     runs.of_rule = run_term(arena, LAYOUT_RULE, reading.term, bounds);
-    runs.of_image = (struct run_result){ .outcome = GAVE_UP };
-    if (runs.of_rule.outcome != GAVE_UP)
-        runs.of_image = run_image(arena, runs.image);
+    runs.of_image = run_image(arena, runs.image);
     return runs;
 }
 
@@ -96,14 +94,29 @@ static struct word_list carried_words(struct arena *arena,
 }
 
 /* What is passed on to a continuation takes two calls; a let or match, one. */
-static bool counts_agree(const struct counts *rule, const struct counts *image)
+static size_t image_calls(const struct counts *rule)
 {
     size_t passed_on = rule->values + rule->calls + rule->built;
-    size_t calls =
-        CALLS_FOR_EACH_PASSED_ON * passed_on + rule->lets + rule->matches;
 
-    return image->calls == calls && image->lets == rule->lets &&
+    return CALLS_FOR_EACH_PASSED_ON * passed_on + rule->lets + rule->matches;
+}
+
+static bool counts_agree(const struct counts *rule, const struct counts *image)
+{
+    return image->calls == image_calls(rule) && image->lets == rule->lets &&
            image->matches == rule->matches;
+}
+
+/*
+ * "a controller can't report a decision for a rule that the bench finds stuck
+ * or endless": a rule that gave up has gone past the counts that its image's
+ * value would tell.
+ */
+static bool image_ended_first(const struct both_runs *runs)
+{
+    return runs->of_rule.outcome == GAVE_UP &&
+           runs->of_image.outcome == CAME_TO_VALUE &&
+           runs->of_image.counts.calls < image_calls(&runs->of_rule.counts);
 }
 
 static enum agreement values_agreement(struct arena *arena,
@@ -123,6 +136,8 @@ static enum agreement values_agreement(struct arena *arena,
 enum agreement demand3_agreement(struct arena *arena,
                                  const struct both_runs *runs)
 {
+    if (image_ended_first(runs))
+        return DISAGREED;
     if (runs->of_rule.outcome == GAVE_UP || runs->of_image.outcome == GAVE_UP)
         return UNDECIDED;
     if (runs->of_rule.outcome != runs->of_image.outcome)

@@ -1,6 +1,7 @@
 /*
  * Demand 3: a rule's value in its carried form is what the rule's image comes
- * to, and the image's counts follow from the rule's.
+ * to, and the image's counts follow from the rule's. The other half, of the
+ * requests that followed: where the image comes to a value, so does the rule.
  */
 #ifndef PEER_DEMAND3_H
 #define PEER_DEMAND3_H

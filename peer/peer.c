@@ -94,8 +94,7 @@ static int run_rule_and_image(FILE *in, FILE *out)
     struct both_runs runs = run_both(&arena, input_rule(&input));
     if (!is_refused(runs.refusal, out)) {
         print_result(out, "rule", &arena, &runs.of_rule);
-        if (runs.of_rule.outcome != GAVE_UP)
-            print_result(out, "image", &arena, &runs.of_image);
+        print_result(out, "image", &arena, &runs.of_image);
     }
     arena_release(&arena);
     return EXIT_SUCCESS;

@@ -118,6 +118,43 @@ static void try_run_cases(struct tally *tally)
     }
 }
 
+enum { VALUES_SO_FAR = 10, THEIR_CALLS = 20 };
+
+/* A rule that gave up, and an image that came to a value by so many calls. */
+static enum agreement after_giving_up(size_t image_calls)
+{
+    struct arena arena = arena_for_runs();
+    const struct both_runs runs = {
+        .of_rule = { .outcome = GAVE_UP,
+                     .counts = { .values = VALUES_SO_FAR } },
+        .of_image = { .outcome = CAME_TO_VALUE,
+                      .counts = { .calls = image_calls } },
+    };
+    enum agreement agreement = demand3_agreement(&arena, &runs);
+
+    arena_release(&arena);
+    return agreement;
+}
+
+static void try_endless(struct tally *tally)
+{
+    const struct word_list calls_itself =
+        WORD_LIST(0x0401, 0x0301, 0x0401, 0x0101, 0x0100, 0x0600, 0x0000);
+    struct arena arena = arena_for_runs();
+    struct both_runs runs = run_both(&arena, calls_itself);
+
+    expect(tally,
+           runs.of_rule.outcome == GAVE_UP &&
+               runs.of_image.outcome == GAVE_UP &&
+               demand3_agreement(&arena, &runs) == UNDECIDED,
+           "endless", "neither the rule nor its image ends");
+    expect(tally, after_giving_up(THEIR_CALLS - 1) == DISAGREED, "endless",
+           "the image has ended before the rule");
+    expect(tally, after_giving_up(THEIR_CALLS) == UNDECIDED, "endless",
+           "the image has gone as far as the rule");
+    arena_release(&arena);
+}
+
 static void try_refused(struct tally *tally, const struct refused_case *cases,
                         size_t count)
 {
@@ -252,6 +289,7 @@ int run_selftest(FILE *out)
     try_highest_place(&tally);
     try_printing(&tally);
     try_run_cases(&tally);
+    try_endless(&tally);
     try_images(&tally);
     try_deepest_image(&tally);
     try_case_n(&tally);
