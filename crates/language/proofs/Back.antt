@@ -2,16 +2,14 @@
 -- arguments are as many as the function has, and a match with the arm that is taken, if one is; nothing else is called or matched. As
 -- runs are determined, it does not matter how the values were come to. Assumes nothing.
 use Prim.Native.Nat.{ℕ}
-use mathlib.Core.Bool.{Bool, true, false, cond}
-use mathlib.Core.Option.{Option, some, none as nothing, Option·none-ne-some}
+use mathlib.Core.Option.{Option, some, none as nothing}
 use mathlib.Core.Path.{_≡_, refl, sym, ap₂, subst, _∙_}
-use lib.Dec.{eqb}
-use borrow.Author.Tests.{eqb-true}
 use Rattle.language.specs.Term.{Lang, Term, Terms, Arms, fun, call, bind, con, cases, nil, cons, size}
 use Rattle.language.specs.Sub.{sub}
 use Rattle.language.specs.Run.{Value, Values, v-fun, v-con, v-nil, v-cons, counted, enters, rev, itself, took}
 use Rattle.language.specs.Run.{Run, Runs, taken, bound, called, matched, done, then}
 use Rattle.language.proofs.Clash.{never}
+use Rattle.language.proofs.Forms.{counted-is}
 use Rattle.language.proofs.Determinism.{call-same, match-same, same-run, same-runs}
 
 -- values are taken whole
@@ -25,23 +23,20 @@ Entered L o a b w nothing = ⊥
 Entered L o a b w (some (ks, xs)) = Run L (sub 0 0 ks (rev xs (itself o (fun o a b))) b) w
 
 pub uncalled : {L : Lang} {o a : ℕ} {b w : Term} {vs : Terms} → Values vs → Run L (call (fun o a b) vs) w → Entered L o a b w (enters L a vs)
-uncalled {L} {o} {a} {b} {w} {vs} vv (called {a = a'} {ks} {xs} f r e s) = go (enters L a vs) refl
-  where
-    go : (x : Option (Terms × Terms)) → enters L a vs ≡ x → Entered L o a b w x
-    go nothing q =
-        let p = same-run f (taken v-fun) .0 in
-        let y : a' ≡ a = cc in
-        absurd (Option·none-ne-some (ks, xs) (sym q ∙ sym (ap₂ (enters L) y (same-runs r (taken-all vv) .0)) ∙ e))
-    go (some (ks', xs')) q = subst (λ y. Run L y w) (call-same L e q (same-run f (taken v-fun) .0) (same-runs r (taken-all vv) .0)) s
+uncalled {L} {o} {a} {b} {w} {vs} vv (called {a = a'} {ks} {xs} f r e s) =
+    let p = same-run f (taken v-fun) .0 in
+    let q = same-runs r (taken-all vv) .0 in
+    let x : a' ≡ a = cc in
+    let e' : enters L a vs ≡ some (ks, xs) = sym (ap₂ (enters L) x q) ∙ e in
+    subst (Entered L o a b w) (sym e') (subst (λ y. Run L y w) (call-same L e e' p q) s)
 
 -- where something goes in, the arguments are as many as the function has
 pub entered-fits : (L : Lang) (o : ℕ) (b w : Term) (a : ℕ) (ks xs : Terms) → Entered L o a b w (counted a ks xs) → size xs ≡ a
-unfolding counted
-entered-fits L o b w a ks xs r = go (eqb (size xs) a) refl r
+entered-fits L o b w a ks xs = go (counted a ks xs) refl
   where
-    go : (e : Bool) → eqb (size xs) a ≡ e → Entered L o a b w (cond {A = Option (Terms × Terms)} e (some (ks, xs)) nothing) → size xs ≡ a
-    go true q r = eqb-true (size xs) a q
-    go false q r = absurd r
+    go : (x : Option (Terms × Terms)) → counted a ks xs ≡ x → Entered L o a b w x → size xs ≡ a
+    go nothing q r = absurd r
+    go (some (ks', xs')) q r = counted-is a ks xs q .0
 
 pub no-call : {L : Lang} {t : ℕ} {w : Term} {vs ps : Terms} → Values vs → Run L (call (con t vs) ps) w → ⊥
 no-call vv (called f r q s) = let p = same-run f (taken (v-con vv)) .0 in never cc
@@ -55,15 +50,12 @@ Chosen L vs w nothing = ⊥
 Chosen L vs w (some b) = Run L (sub 0 0 nil (rev vs nil) b) w
 
 pub unmatched : {L : Lang} {t : ℕ} {w : Term} {vs : Terms} {ps : Arms} → Values vs → Run L (cases (con t vs) ps) w → Chosen L vs w (took t (size vs) ps)
-unmatched {L} {t} {w} {vs} {ps} vv (matched {b} {t = t'} {vs = vs'} r k s) = go (took t (size vs) ps) refl
-  where
-    go : (x : Option Term) → took t (size vs) ps ≡ x → Chosen L vs w x
-    go nothing q =
-        let p = same-run r (taken (v-con vv)) .0 in
-        let y : t' ≡ t = cc in
-        let z : vs' ≡ vs = cc in
-        absurd (Option·none-ne-some b (sym q ∙ (rw (y, z) at k)))
-    go (some b') q = subst (λ y. Run L y w) (match-same ps k q (same-run r (taken (v-con vv)) .0)) s
+unmatched {L} {t} {w} {vs} {ps} vv (matched {b} {t = t'} {vs = vs'} r k s) =
+    let p = same-run r (taken (v-con vv)) .0 in
+    let x : t' ≡ t = cc in
+    let y : vs' ≡ vs = cc in
+    let k' : took t (size vs) ps ≡ some b = rw (x, y) at k in
+    subst (Chosen L vs w) (sym k') (subst (λ z. Run L z w) (match-same ps k k' p) s)
 
 pub no-match : {L : Lang} {o a : ℕ} {b w : Term} {ps : Arms} → Run L (cases (fun o a b) ps) w → ⊥
 no-match (matched r k s) = let p = same-run r (taken v-fun) .0 in never cc

@@ -13,12 +13,12 @@ use Rattle.language.specs.Run.{Value, Values, v-fun, v-con, v-nil, v-cons, ente
 use Rattle.language.specs.Run.{Run, taken, bound, called, matched, then, Counts, count, counts}
 use Rattle.language.specs.Image.{lam, to, downto, calling, making, passing, carried, carrieds, passingᵃ}
 use Rattle.language.proofs.Forms.{value-atom, size-carrieds, passing-atom, itself-values, counted-fits}
+use Rattle.language.proofs.Determinism.{same-run}
+use Rattle.language.proofs.Back.{taken-all, Entered, uncalled, unbound, Chosen, unmatched}
 use Rattle.meaning.specs.Promises.{Comes}
 use Rattle.meaning.proofs.Scopes.{keep}
 use Rattle.meaning.proofs.Forms.{carried-value, carrieds-values, carried-scoped, passing-scoped, letting, matching}
 use Rattle.meaning.proofs.Commute.{passing-sub}
-use Rattle.language.proofs.Determinism.{same-run}
-use Rattle.language.proofs.Back.{taken-all, Entered, uncalled, unbound, Chosen, unmatched}
 use Rattle.meaning.proofs.Values.{rev-values, carrieds-rev, carrieds-itself, in-fun, in-arms}
 
 -- so many calls, lets and matches

@@ -53,31 +53,31 @@ mutual
   origin (fun o a b) = under o a (origin b)
   origin (call f ps) = applied (origin f) (originOfFirst ps)
   origin (bind m b) = inside nought (λ f acc. bind f (origin b .given)) nought
-  origin (con t ps) = leaf (con t (atomsOf ps)) (λ f acc. con t (cons f (rev acc nil)))
-  origin (cases m ps) = inside nought (λ f acc. cases f (armsOf ps)) nought
+  origin (con t ps) = leaf (con t (atomsFrom ps)) (λ f acc. con t (cons f (rev acc nil)))
+  origin (cases m ps) = inside nought (λ f acc. cases f (armsFrom ps)) nought
 
   originOfFirst : Terms → Origin
   originOfFirst nil = leaf nought noughts
   originOfFirst (cons t ts) = origin t
 
-  atomsOf : Terms → Terms
-  atomsOf nil = nil
-  atomsOf (cons t ts) = cons (origin t .atom) (atomsOf ts)
+  atomsFrom : Terms → Terms
+  atomsFrom nil = nil
+  atomsFrom (cons t ts) = cons (origin t .atom) (atomsFrom ts)
 
-  armsOf : Arms → Arms
-  armsOf none = none
-  armsOf (arm t n b ps) = arm t n (origin b .given) (armsOf ps)
+  armsFrom : Arms → Arms
+  armsFrom none = none
+  armsFrom (arm t n b ps) = arm t n (origin b .given) (armsFrom ps)
 
 -- a passing form is a function
-opened : (t : Term) → origin (passing t) .opens ≡ true
+opens-is : (t : Term) → origin (passing t) .opens ≡ true
 unfolding passing origin
-opened (var i) = refl
-opened (kvar i) = refl
-opened (fun o a b) = refl
-opened (call f ps) = refl
-opened (bind m b) = refl
-opened (con t ps) = refl
-opened (cases m ps) = refl
+opens-is (var i) = refl
+opens-is (kvar i) = refl
+opens-is (fun o a b) = refl
+opens-is (call f ps) = refl
+opens-is (bind m b) = refl
+opens-is (con t ps) = refl
+opens-is (cases m ps) = refl
 
 -- terms turned round twice
 rev-rev : (ts acc : Terms) → rev (rev ts acc) nil ≡ rev acc ts
@@ -87,11 +87,11 @@ rev-rev (cons t ts) acc = rev-rev ts (cons t acc)
 
 -- a constructor that is an atom, or not, by what is known of its arguments
 either : (t : ℕ) (p : Term) (ps : Terms) (e : Bool) → atoms (cons p ps) ≡ e → (atom p ≡ true → origin (carried p) .atom ≡ p)
-    → (atoms ps ≡ true → atomsOf (carrieds ps) ≡ ps) → origin (passing p) .passed ≡ p
+    → (atoms ps ≡ true → atomsFrom (carrieds ps) ≡ ps) → origin (passing p) .passed ≡ p
     → ((z : Term) → origin (chain ps z) .rest p nil ≡ origin z .rest p (rev ps nil)) → origin (passing (con t (cons p ps))) .passed ≡ con t (cons p ps)
 unfolding origin passing rev atom size
 either t p ps true e x xs y ys = let q = and-eq-true-iff (atom p) (atoms ps) .0 e in rw (e, x (q .0), xs (q .1)) refl
-either t p ps false e x xs y ys = rw (e, opened p, y, ys (making t (size (cons p ps))), rev-rev ps nil) refl
+either t p ps false e x xs y ys = rw (e, opens-is p, y, ys (making t (size (cons p ps))), rev-rev ps nil) refl
 
 mutual
   unfolding origin passing rev atom size
@@ -100,14 +100,14 @@ mutual
   passed-is (var i) = refl
   passed-is (kvar i) = refl
   passed-is (fun o a b) = ap (fun o a) (passed-is b)
-  passed-is (call f ps) = rw (opened f, passed-is f, rest-is ps (calling (size ps)) f nil, rev-rev ps nil) refl
-  passed-is (bind m b) = rw (opened m, passed-is m, passed-is b) refl
-  passed-is (con t ps) = made ps t
-  passed-is (cases m ps) = rw (opened m, passed-is m, arms-is ps) refl
+  passed-is (call f ps) = rw (opens-is f, passed-is f, rest-is ps (calling (size ps)) f nil, rev-rev ps nil) refl
+  passed-is (bind m b) = rw (opens-is m, passed-is m, passed-is b) refl
+  passed-is (con t ps) = con-is ps t
+  passed-is (cases m ps) = rw (opens-is m, passed-is m, arms-is ps) refl
 
-  made : (ps : Terms) (t : ℕ) → origin (passing (con t ps)) .passed ≡ con t ps
-  made nil t = refl
-  made (cons p ps) t = either t p ps (atoms (cons p ps)) refl (λ e. atom-is p e) (λ e. atoms-are ps e) (passed-is p) (λ z. rest-is ps z p nil)
+  con-is : (ps : Terms) (t : ℕ) → origin (passing (con t ps)) .passed ≡ con t ps
+  con-is nil t = refl
+  con-is (cons p ps) t = either t p ps (atoms (cons p ps)) refl (λ e. atom-is p e) (λ e. atoms-are ps e) (passed-is p) (λ z. rest-is ps z p nil)
 
   atom-is : (t : Term) → atom t ≡ true → origin (carried t) .atom ≡ t
   atom-is (var i) e = refl
@@ -118,15 +118,15 @@ mutual
   atom-is (con t ps) e = ap (con t) (atoms-are ps e)
   atom-is (cases m ps) e = absurd (false≢true e)
 
-  atoms-are : (ts : Terms) → atoms ts ≡ true → atomsOf (carrieds ts) ≡ ts
+  atoms-are : (ts : Terms) → atoms ts ≡ true → atomsFrom (carrieds ts) ≡ ts
   atoms-are nil e = refl
   atoms-are (cons t ts) e = let p = and-eq-true-iff (atom t) (atoms ts) .0 e in ap₂ cons (atom-is t (p .0)) (atoms-are ts (p .1))
 
   rest-is : (ts : Terms) (z f : Term) (acc : Terms) → origin (chain ts z) .rest f acc ≡ origin z .rest f (rev ts acc)
   rest-is nil z f acc = refl
-  rest-is (cons t ts) z f acc = rw (opened t, passed-is t) (rest-is ts z f (cons t acc))
+  rest-is (cons t ts) z f acc = rw (opens-is t, passed-is t) (rest-is ts z f (cons t acc))
 
-  arms-is : (ps : Arms) → armsOf (passingᵃ ps) ≡ ps
+  arms-is : (ps : Arms) → armsFrom (passingᵃ ps) ≡ ps
   arms-is none = refl
   arms-is (arm t n b ps) = ap₂ (arm t n) (passed-is b) (arms-is ps)
 
