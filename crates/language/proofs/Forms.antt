@@ -1,4 +1,4 @@
--- The passing form of an atom, and of a constructor that is none: document 01's two cases for a constructor, each as an equation. The carried
+-- Values are atoms. The passing form of an atom, and of a constructor that is none: document 01's two cases for a constructor, each as an equation. The carried
 -- forms of a list are as many as its terms, the variables that a chain's end names are as many as it says, and the arms of a match stay as many. Copies
 -- of a value are values, as many as they are, an arm has both the tag and the arity exactly where the numbers are the same,
 -- and arguments go in exactly where they are as many as the function has.
