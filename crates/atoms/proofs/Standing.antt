@@ -197,7 +197,7 @@ reach : {s ws : List ℕ} {at to : ℕ} → Held s ws at to → length ws ≤ le
 reach {s} {ws} {at} {to} h = omega (arith, ap length (h .words), length-append ws (drop to s), length-drop at s)
 
 -- a term has a word and a level; an arm has two words
-term-least : (t : Term) → (1 ≤ length (words rules t)) × (1 ≤ depth t)
+pub term-least : (t : Term) → (1 ≤ length (words rules t)) × (1 ≤ depth t)
 unfolding words depth
 term-least (var i) = omega arith
 term-least (kvar i) = omega arith

@@ -1,13 +1,14 @@
 -- One law for each call in the functions that skip and that test for atoms, and for each way out of them: what was tested and called on the
 -- way, and what then stands there or is right to answer. `search` finds a law's premises in what is known at that place of the code.
 -- Assumes nothing.
-use Prim.Native.Nat.{ℕ, _+_, _-_, _%_}
-use mathlib.Core.Path.{_≡_, refl, sym, _∙_}
+use Prim.Native.Nat.{ℕ, _+_, _-_, _%_, _≤_, _<_}
+use mathlib.Core.Path.{_≡_, refl, sym, ap, ap₂, _∙_}
 use mathlib.Core.List.{List}
 use native.Mathlib.Omega.{arith}
 use borrow.Author.Needs.{needs}
-use lib.ListN.{getD}
-use Rattle.language.specs.Kinds.{atTerm, headOf}
+use borrow.Author.Tests.{lt-ltb, le-ltb}
+use lib.ListN.{length, getD}
+use Rattle.language.specs.Kinds.{atTerm, rowOf, headOf}
 use Rattle.language.specs.declared.Parts.{Parts}
 use Rattle.language.specs.declared.Parts.the-variants.{Nothing, Body, FunctionAndArguments, BoundAndBody, CountAndArguments, SubjectAndArms, ArityAndBody}
 use Rattle.language.specs.declared.Row.{Row}
@@ -15,6 +16,10 @@ use Rattle.language.specs.declared.Head.{Head}
 use Rattle.language.specs.declared.Head.the-variants.{Refused, Opens}
 use Rattle.atoms.specs.Standing.{term, terms, arms, over, Stands, Ends, Parted, Counted}
 use Rattle.atoms.proofs.Standing.{ends-over, ends-then, ends-as, stands-as, stands-first, stands-second, as-var, as-fun, as-call, as-bind, as-con, as-cases, as-nil, as-cons, as-none, as-arm, as-arity, term-inside, term-deep, count-there}
+use Rattle.atoms.specs.Openings.{opening, openingAt, Whole, OpensAt, tested, restAfter}
+use Rattle.atoms.specs.declared.Opening.{Opening}
+use Rattle.atoms.specs.declared.Rest.{Rest}
+use Rattle.atoms.specs.declared.Rest.the-variants.{Left}
 use Rattle.atoms.proofs.Opened.{opened, not-refused}
 
 module _ {s : List ℕ} {at : ℕ} where
@@ -34,105 +39,58 @@ module _ {s : List ℕ} {at : ℕ} where
     pub counted : Stands (term d) s at → Parted CountAndArguments d s at → Counted (getD s (at + 1) 0) s at
     counted k H = count-there (opened (k .seen .good .0) (k .seen .held) H) (k .seen)
 
-    -- a term: what stands behind its head
-    pub body-there : Parted Body d s at → Stands (term d) s at → Stands (term (d - 1)) s (at + 1)
-    body-there H k = stands-second (stands-as (as-fun d H) k) (ends-over 1 refl)
+-- what a head opens: its form is its row's, and it has a word at least
+form-kept : (P : Parts) (n m : ℕ) → (opening P n m .parts ≡ P) × (1 ≤ opening P n m .words)
+unfolding opening
+form-kept Nothing n m = (refl, omega arith)
+form-kept Body n m = (refl, omega arith)
+form-kept FunctionAndArguments n m = (refl, omega arith)
+form-kept BoundAndBody n m = (refl, omega arith)
+form-kept CountAndArguments n m = (refl, omega arith)
+form-kept SubjectAndArms n m = (refl, omega arith)
+form-kept ArityAndBody n m = (refl, omega arith)
 
-    pub call-there : Parted FunctionAndArguments d s at → Stands (term d) s at → Stands (terms (d - 1) (getD s at 0 % 256 + 1)) s (at + 1)
-    call-there H k = stands-second (stands-as (as-call d H) k) (ends-over 1 refl)
+pub a-word : (s : List ℕ) (at : ℕ) → 1 ≤ openingAt s at .words
+unfolding openingAt
+a-word s at = form-kept (rowOf (getD s at 0) .parts) (getD s at 0 % 256) (getD s (at + 1) 0) .1
 
-    pub bound-there : Parted BoundAndBody d s at → Stands (term d) s at → Stands (term (d - 1)) s (at + 1)
-    bound-there H k = stands-first (stands-second (stands-as (as-bind d H) k) (ends-over 1 refl))
+-- the same by the form Q that the code has found
+module _ {s : List ℕ} {at : ℕ} (l : Whole s at) where
+  pub head-inside : at < length s
+  head-inside = omega (arith, a-word s at, l .inside)
 
-    pub let-body-there : {i : ℕ} → Parted BoundAndBody d s at → Stands (term d) s at → Ends (term (d - 1)) s (at + 1) i → Stands (term (d - 1)) s i
-    let-body-there H k E = stands-second (stands-second (stands-as (as-bind d H) k) (ends-over 1 refl)) E
+  module _ {Q : Parts} {r : Row} (h : r ≡ rowOf (getD s at 0)) (e : r .parts ≡ Q) where
+    opened-as : openingAt s at ≡ opening Q (getD s at 0 % 256) (getD s (at + 1) 0)
+    unfolding openingAt
+    opened-as = rw (sym h, e)
 
-    pub arguments-there : {n : ℕ} → Parted CountAndArguments d s at → Counted n s at → Stands (term d) s at → Stands (terms (d - 1) n) s (at + 2)
-    arguments-there H n k = stands-second (stands-as (as-con d H (n .is)) k) (ends-over 2 refl)
+    pub formed : {w p : ℕ} → w ≡ opening Q (getD s at 0 % 256) (getD s (at + 1) 0) .words → p ≡ opening Q (getD s at 0 % 256) (getD s (at + 1) 0) .pieces
+        → OpensAt (record { parts = r .parts; words = w; pieces = p }) s at
+    formed {w} {p} a b =
+        let O = opening Q (getD s at 0 % 256) (getD s (at + 1) 0) in
+        let k = form-kept Q (getD s at 0 % 256) (getD s (at + 1) 0) in
+        let v : openingAt s at .words ≡ O .words = ap (λ (o : Opening). o .words) opened-as in
+        record {
+          is = ap₂ (λ (P : Parts) (x : ℕ). record { parts = P; words = x; pieces = p }) (e ∙ sym (k .0)) a
+              ∙ ap (λ (x : ℕ). record { parts = O .parts; words = O .words; pieces = x }) b ∙ sym opened-as;
+          some = omega (arith, k .1);
+          inside = omega (arith, l .inside);
+        }
 
-    pub subject-there : Parted SubjectAndArms d s at → Stands (term d) s at → Stands (term (d - 1)) s (at + 1)
-    subject-there H k = stands-first (stands-second (stands-as (as-cases d H) k) (ends-over 1 refl))
+  pub second-inside : {r : Row} → r ≡ rowOf (getD s at 0) → r .parts ≡ CountAndArguments → at + 1 < length s
+  unfolding opening
+  second-inside h e = omega (arith, l .inside, ap (λ (o : Opening). o .words) (opened-as h e))
 
-    pub arms-there : {i : ℕ} → Parted SubjectAndArms d s at → Stands (term d) s at → Ends (term (d - 1)) s (at + 1) i
-        → Stands (arms (d - 1) (getD s at 0 % 256)) s i
-    arms-there H k E = stands-second (stands-second (stands-as (as-cases d H) k) (ends-over 1 refl)) E
+-- what is left after it, by the tests of the code
+module _ (o : Opening) (i n : ℕ) {x : Rest} where
+  pub passed-over : 0 < i → x ≡ Left (i - 1 + o .pieces) n → x ≡ restAfter o i n
+  unfolding restAfter
+  passed-over l e = simp (lt-ltb 0 i l, e)
 
-    -- and where it ends
-    pub skip-arity : Parted ArityAndBody d s at → Ends (term d) s at at
-    skip-arity H = ends-as (as-arity d {Q = over 0} H) (ends-over 0 (omega arith))
+  pub tested-there : {Q : Parts} → i ≤ 0 → o .parts ≡ Q → x ≡ tested Q (o .pieces) n → x ≡ restAfter o i n
+  unfolding restAfter
+  tested-there l p e = simp (le-ltb 0 i l, p, e)
 
-    pub skip-var : Parted Nothing d s at → Ends (term d) s at (at + 1)
-    skip-var H = ends-as (as-var d H) (ends-over 1 refl)
+pub ruleset openings = (head-inside, second-inside, formed, passed-over, tested-there, needs)
 
-    module _ {to : ℕ} where
-      pub skip-fun : Parted Body d s at → Ends (term (d - 1)) s (at + 1) to → Ends (term d) s at to
-      skip-fun H E = ends-as (as-fun d H) (ends-then (ends-over 1 refl) E)
-
-      pub skip-call : Parted FunctionAndArguments d s at → Ends (terms (d - 1) (getD s at 0 % 256 + 1)) s (at + 1) to → Ends (term d) s at to
-      skip-call H E = ends-as (as-call d H) (ends-then (ends-over 1 refl) E)
-
-      pub skip-let : {i : ℕ} → Parted BoundAndBody d s at → Ends (term (d - 1)) s (at + 1) i → Ends (term (d - 1)) s i to → Ends (term d) s at to
-      skip-let H E F = ends-as (as-bind d H) (ends-then (ends-over 1 refl) (ends-then E F))
-
-      pub skip-con : {n : ℕ} → Parted CountAndArguments d s at → Counted n s at → Ends (terms (d - 1) n) s (at + 2) to → Ends (term d) s at to
-      skip-con H n E = ends-as (as-con d H (n .is)) (ends-then (ends-over 2 refl) E)
-
-      pub skip-cases : {i : ℕ} → Parted SubjectAndArms d s at → Ends (term (d - 1)) s (at + 1) i → Ends (arms (d - 1) (getD s at 0 % 256)) s i to
-          → Ends (term d) s at to
-      skip-cases H E F = ends-as (as-cases d H) (ends-then (ends-over 1 refl) (ends-then E F))
-
-    -- terms and arms, one after the other
-    module _ {n : ℕ} where
-      pub first-there : (n ≡ 0 → ⊥) → Stands (terms d n) s at → Stands (term d) s at
-      first-there z k = stands-first (stands-as (as-cons d z) k)
-
-      pub others-there : {i : ℕ} → (n ≡ 0 → ⊥) → Stands (terms d n) s at → Ends (term d) s at i → Stands (terms d (n - 1)) s i
-      others-there z k E = stands-second (stands-as (as-cons d z) k) E
-
-      pub arm-body-there : (n ≡ 0 → ⊥) → Stands (arms d n) s at → Stands (term d) s (at + 2)
-      arm-body-there z k = stands-first (stands-second (stands-as (as-arm d z) k) (ends-over 2 refl))
-
-      pub other-arms-there : {i : ℕ} → (n ≡ 0 → ⊥) → Stands (arms d n) s at → Ends (term d) s (at + 2) i → Stands (arms d (n - 1)) s i
-      other-arms-there z k E = stands-second (stands-second (stands-as (as-arm d z) k) (ends-over 2 refl)) E
-
-      pub skip-nil : n ≡ 0 → Ends (terms d n) s at at
-      skip-nil z = ends-as (as-nil d z) (ends-over 0 (omega arith))
-
-      pub skip-cons : {i to : ℕ} → (n ≡ 0 → ⊥) → Ends (term d) s at i → Ends (terms d (n - 1)) s i to → Ends (terms d n) s at to
-      skip-cons z E F = ends-as (as-cons d z) (ends-then E F)
-
-      pub skip-none : n ≡ 0 → Ends (arms d n) s at at
-      skip-none z = ends-as (as-none d z) (ends-over 0 (omega arith))
-
-      pub skip-arm : {i to : ℕ} → (n ≡ 0 → ⊥) → Ends (term d) s (at + 2) i → Ends (arms d (n - 1)) s i to → Ends (arms d n) s at to
-      skip-arm z E F = ends-as (as-arm d z) (ends-then (ends-over 2 refl) (ends-then E F))
-
-pub ruleset ways = (
-  parted,
-  parts-opened,
-  parts-refused,
-  counted,
-  body-there,
-  call-there,
-  bound-there,
-  let-body-there,
-  arguments-there,
-  subject-there,
-  arms-there,
-  skip-arity,
-  skip-var,
-  skip-fun,
-  skip-call,
-  skip-let,
-  skip-con,
-  skip-cases,
-  first-there,
-  others-there,
-  arm-body-there,
-  other-arms-there,
-  skip-nil,
-  skip-cons,
-  skip-none,
-  skip-arm,
-  needs,
-)
+pub ruleset ways = (parted, parts-opened, parts-refused, counted, needs)

@@ -2,7 +2,7 @@
 -- words of a checked rule are made of.
 use Prim.Native.Nat.{ℕ, _+_, _≤_, _<_}
 use mathlib.Core.Path.{_≡_}
-use mathlib.Core.Bool.{Bool, true, false}
+use mathlib.Core.Bool.{Bool, true}
 use mathlib.Core.List.{List, _++_}
 use lib.ListN.{length, getD}
 use Rattle.language.specs.Term.{rules, Term, Terms, Arms, size, sizeᵃ}
@@ -14,8 +14,6 @@ use Rattle.language.specs.Kinds.{mostByte, atTerm, headOf}
 use Rattle.language.specs.declared.Parts.{Parts}
 use Rattle.language.specs.declared.Row.{Row}
 use Rattle.language.specs.declared.Head.the-variants.{Opens}
-use Rattle.atoms.specs.declared.Found.{Found}
-use Rattle.atoms.specs.declared.Found.the-variants.{Atoms, Other}
 
 -- A part of a rule: a term of at most d levels; n terms, or n arms, each of at most d levels; an atom, or n atoms, of at most d levels;
 -- n words, whatever they are; one part and then another.
@@ -71,15 +69,6 @@ pub record Stands (P : Part) (s : List ℕ) (at : ℕ) : Type 0 where
 -- each good part P that stands in s at `at` ends at `to`
 pub record Ends (P : Part) (s : List ℕ) (at to : ℕ) : Type 0 where
   pub end : (x : Thing P) (e : ℕ) → Seen P s at e x → to ≡ e
-
--- what a test for atoms finds where a part passes it or not, and ends at a place
-abbrev pub foundOf : Bool → ℕ → Found
-foundOf true to = Atoms to
-foundOf false to = Other
-
--- r is the test's answer for each good part P that stands in s at `at`
-pub record Tells (P : Part) (test : Thing P → Bool) (s : List ℕ) (at : ℕ) (r : Found) : Type 0 where
-  pub tell : (x : Thing P) (to : ℕ) → Seen P s at to x → r ≡ foundOf (test x) to
 
 -- b tells whether a term of at most d levels that stands in s at `at` is an atom
 pub record AtomAt (d : ℕ) (s : List ℕ) (at : ℕ) (b : Bool) : Type 0 where

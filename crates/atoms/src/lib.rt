@@ -1,18 +1,15 @@
-// Whether a term is an atom, told by its words. What stands inside a function is skipped.
+// Whether a term is an atom, told by its words. What stands inside a function is passed over.
 use language::Head;
 use language::Parts;
 ghost use Rattle.language.specs.declared.Parts.the-variants.{CountAndArguments};
-ghost use Rattle.language.specs.Run.{atom, atoms};
-ghost use Rattle.atoms.specs.Standing.{term, terms, arms, Stands, Ends, Tells, AtomAt, Parted, Counted};
+ghost use mathlib.Core.Path.{_≡_};
+ghost use Rattle.atoms.specs.Standing.{term, Stands, AtomAt, Parted, Counted};
+ghost use Rattle.atoms.specs.Openings.{Whole, OpensAt, Few, restAfter};
 
-// The words before the parts of a constructor and before the body of an arm: a head, and a count.
+// The words before the parts of a term; before those of a constructor and the body of an arm a count stands too.
+const HEAD: usize = 1;
+
 pub const HEAD_AND_COUNT: usize = 2;
-
-// What a test for atoms finds: the place after what stands there, where all of it is atoms.
-pub enum Found {
-    Atoms(usize),
-    Other,
-}
 
 // What follows the head of the term at `at`, which has at most `depth` levels. No term has a head that is refused.
 pub fn parts_at(s: &[u16], at: usize, depth: usize) -> Parts
@@ -33,91 +30,107 @@ pub fn count_at(s: &[u16], at: usize, depth: usize) -> usize
     s[at + 1] as usize
 }
 
-// The place after the term at `at`.
-fn skip(s: &[u16], at: usize, depth: usize) -> usize
-    requires { ⌜ Stands (term depth) (now s) at ⌝ }
-    ensures { λ r. ⌜ Ends (term depth) (now (s .entry)) at r ⌝ }
+// What a head opens: its form, the words of its own, and how many pieces, terms or arms, stand behind them.
+struct Opening {
+    parts: Parts,
+    words: usize,
+    pieces: u16,
+}
+
+// What is left of a test after a head: so many pieces to be passed over, and then so many terms that must be atoms; or that one is none.
+enum Rest {
+    Left(usize, usize),
+    NoAtom,
+}
+
+// What the head at `at`, of a term or of an arm, opens.
+fn opening_at(s: &[u16], at: usize) -> Opening
+    requires { ⌜ Whole (now s) at ⌝ }
+    ensures { λ r. ⌜ OpensAt r (now (s .entry)) at ⌝ }
 {
-    let parts = parts_at(s, at, depth);
-    let low = (s[at] % language::LOW_BYTE) as usize;
-    let next = at + 1;
-    let left = depth - 1;
+    let w = s[at];
+    let low = w % language::LOW_BYTE;
+    let row = language::row_of(w);
+    let parts = row.parts;
     match parts {
-        Parts::Nothing => next,
-        Parts::Body => skip(s, next, left),
-        Parts::FunctionAndArguments => skip_terms(s, next, left, low + 1),
-        Parts::BoundAndBody => skip(s, skip(s, next, left), left),
-        Parts::CountAndArguments => {
-            let count = count_at(s, at, depth);
-            skip_terms(s, at + HEAD_AND_COUNT, left, count)
-        }
-        Parts::SubjectAndArms => skip_arms(s, skip(s, next, left), left, low),
-        Parts::ArityAndBody => at,
+        Parts::Nothing => Opening {
+            parts,
+            words: HEAD,
+            pieces: 0,
+        },
+        Parts::Body => Opening {
+            parts,
+            words: HEAD,
+            pieces: 1,
+        },
+        Parts::FunctionAndArguments => Opening {
+            parts,
+            words: HEAD,
+            pieces: low + 1,
+        },
+        Parts::BoundAndBody => Opening {
+            parts,
+            words: HEAD,
+            pieces: 2,
+        },
+        Parts::CountAndArguments => Opening {
+            parts,
+            words: HEAD_AND_COUNT,
+            pieces: s[at + 1],
+        },
+        Parts::SubjectAndArms => Opening {
+            parts,
+            words: HEAD,
+            pieces: low + 1,
+        },
+        Parts::ArityAndBody => Opening {
+            parts,
+            words: HEAD_AND_COUNT,
+            pieces: 1,
+        },
     }
 }
 
-// The place after the `count` terms at `at`.
-fn skip_terms(s: &[u16], at: usize, depth: usize, count: usize) -> usize
-    requires { ⌜ Stands (terms depth count) (now s) at ⌝ }
-    ensures { λ r. ⌜ Ends (terms depth count) (now (s .entry)) at r ⌝ }
+// What is left after a head, where `inside` pieces were to be passed over and then `atoms` terms to be tested. A function is an
+// atom whatever its body is: the body is passed over.
+fn rest_after(head: Opening, inside: usize, atoms: usize) -> Rest
+    requires { ⌜ Few inside atoms ⌝ }
+    ensures { λ r. ⌜ r ≡ restAfter head inside atoms ⌝ }
 {
-    if count == 0 {
-        return at;
+    let parts = head.parts;
+    let pieces = head.pieces as usize;
+    if 0 < inside {
+        return Rest::Left(inside - 1 + pieces, atoms);
     }
-    skip_terms(s, skip(s, at, depth), depth, count - 1)
-}
-
-// The place after the `count` arms at `at`.
-fn skip_arms(s: &[u16], at: usize, depth: usize, count: usize) -> usize
-    requires { ⌜ Stands (arms depth count) (now s) at ⌝ }
-    ensures { λ r. ⌜ Ends (arms depth count) (now (s .entry)) at r ⌝ }
-{
-    if count == 0 {
-        return at;
-    }
-    skip_arms(s, skip(s, at + HEAD_AND_COUNT, depth), depth, count - 1)
-}
-
-// Whether the term at `at` is an atom, and where it ends if it is.
-fn atom_at(s: &[u16], at: usize, depth: usize) -> Found
-    requires { ⌜ Stands (term depth) (now s) at ⌝ }
-    ensures { λ r. ⌜ Tells (term depth) atom (now (s .entry)) at r ⌝ }
-{
-    match parts_at(s, at, depth) {
-        Parts::Nothing => Found::Atoms(at + 1),
-        Parts::Body => Found::Atoms(skip(s, at + 1, depth - 1)),
-        Parts::FunctionAndArguments => Found::Other,
-        Parts::BoundAndBody => Found::Other,
-        Parts::CountAndArguments => {
-            let count = count_at(s, at, depth);
-            atoms_at(s, at + HEAD_AND_COUNT, depth - 1, count)
-        }
-        Parts::SubjectAndArms => Found::Other,
-        Parts::ArityAndBody => Found::Other,
+    match parts {
+        Parts::Nothing => Rest::Left(0, atoms - 1),
+        Parts::Body => Rest::Left(pieces, atoms - 1),
+        Parts::FunctionAndArguments => Rest::NoAtom,
+        Parts::BoundAndBody => Rest::NoAtom,
+        Parts::CountAndArguments => Rest::Left(0, atoms - 1 + pieces),
+        Parts::SubjectAndArms => Rest::NoAtom,
+        Parts::ArityAndBody => Rest::NoAtom,
     }
 }
 
-// Whether the `count` terms at `at` are all atoms, and where they end if they are: the first that is no atom ends the test.
-fn atoms_at(s: &[u16], at: usize, depth: usize, count: usize) -> Found
-    requires { ⌜ Stands (terms depth count) (now s) at ⌝ }
-    ensures { λ r. ⌜ Tells (terms depth count) atoms (now (s .entry)) at r ⌝ }
-{
-    if count == 0 {
-        return Found::Atoms(at);
-    }
-    match atom_at(s, at, depth) {
-        Found::Other => Found::Other,
-        Found::Atoms(next) => atoms_at(s, next, depth, count - 1),
-    }
-}
-
-// Whether the term at `at` is an atom.
+// Whether the term at `at` is an atom: one pass over its words, up to the first part that is no atom.
 pub fn is_atom(s: &[u16], at: usize, depth: usize) -> bool
     requires { ⌜ Stands (term depth) (now s) at ⌝ }
     ensures { λ r. ⌜ AtomAt depth (now (s .entry)) at r ⌝ }
 {
-    match atom_at(s, at, depth) {
-        Found::Atoms(_) => true,
-        Found::Other => false,
+    let mut next = at;
+    let mut inside = 0;
+    let mut atoms_left = 1;
+    while 0 < atoms_left {
+        let head = opening_at(s, next);
+        match rest_after(head, inside, atoms_left) {
+            Rest::NoAtom => return false,
+            Rest::Left(pieces, terms) => {
+                inside = pieces;
+                atoms_left = terms;
+            }
+        }
+        next += head.words;
     }
+    true
 }

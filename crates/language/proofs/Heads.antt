@@ -36,7 +36,7 @@ module _ (q w : ℕ) {r : Row} (e : r ≡ rowOf w) where
 pub ruleset ways = (wrong-kind, too-low, too-high, opens)
 
 -- the row of the kind k, where a head of that kind stands
-of-kind : (w k a : ℕ) {r : Row} → w ≡ head k a → a ≤ mostByte → getD kinds k noRow ≡ r → r ≡ rowOf w
+pub of-kind : (w k a : ℕ) {r : Row} → w ≡ head k a → a ≤ mostByte → getD kinds k noRow ≡ r → r ≡ rowOf w
 unfolding rowOf
 of-kind w k a e l q = let d : w / 256 ≡ k = omega arith in rw (d, q)
 

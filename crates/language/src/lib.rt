@@ -168,7 +168,7 @@ pub enum Answer {
 }
 
 // The row of a head word's kind.
-fn row_of(w: u16) -> Row
+pub fn row_of(w: u16) -> Row
     ensures { λ r. ⌜ r ≡ rowOf w ⌝ }
 {
     let kind = (w / LOW_BYTE) as usize;
