@@ -1,16 +1,15 @@
--- The pass over a term's words answers whether the term is an atom. What it does at one head is a function of what that head opens and of
--- the two numbers that it keeps (`after`), and a whole pass is a chain of such steps. Each term's words are a link of that chain:
--- passed over, if the term stands in a function's body; else its answer is joined to that of the words behind it.
+-- The pass over a term's words answers whether the term is an atom. What it does at one head is `restAfter`; a whole pass is a chain of such
+-- steps, from the end of the term back to its front. The words of each term in it are some steps of that chain: if the term stands
+-- in a function's body, it is one piece less to pass over; else its answer is joined to that of what stands behind it.
 -- Assumes nothing.
 use Prim.Native.Nat.{ℕ, zero, suc, _+_, _-_, _%_, _≤_, _<_}
 use mathlib.Core.Path.{_≡_, refl, sym, ap, subst, subst₂, _∙_}
-use mathlib.Core.Bool.{Bool, true, false, cond, _&&_, and-assoc, and-true}
+use mathlib.Core.Bool.{Bool, true, false, _&&_, and-assoc, and-true}
 use mathlib.Core.List.{List, _∷_}
-use lib.Dec.{ltb}
 use native.Mathlib.Omega.{arith}
 use lib.ListN.{length, getD}
 use borrow.Author.Needs.{needs}
-use borrow.Author.Tests.{lt-ltb, le-ltb}
+use borrow.Author.Tests.{lt-ltb}
 use Rattle.language.specs.Term.{rules, Term, Terms, Arms, size, sizeᵃ}
 use Rattle.language.specs.Kinds.{mostByte, noRow, kinds, rowOf}
 use Rattle.language.specs.Words.{head, words, wordsᵗ, wordsᵃ}
@@ -18,17 +17,16 @@ use Rattle.language.specs.Limits.{Ranged, Rangedᵗ, Rangedᵃ, r-var, r-kvar, 
 use Rattle.language.specs.Run.{atom, atoms}
 use Rattle.language.specs.Places.{Held}
 use Rattle.language.specs.declared.Parts.{Parts}
-use Rattle.language.specs.declared.Parts.the-variants.{Nothing, Body, FunctionAndArguments, BoundAndBody, CountAndArguments, SubjectAndArms, ArityAndBody}
+use Rattle.language.specs.declared.Parts.the-variants.{Body}
 use Rattle.language.specs.declared.Row.{Row}
 use Rattle.language.proofs.Clash.{never}
 use Rattle.language.proofs.Heads.{of-kind}
 use Rattle.language.proofs.Places.{first-run, second-run, first-word, next-words, ends}
 use Rattle.atoms.specs.Standing.{term, Stands, Seen, AtomAt}
-use Rattle.atoms.specs.Openings.{opening, openingAt, Whole, OpensAt, tested, restAfter}
+use Rattle.atoms.specs.Openings.{wordsOf, piecesOf, piecesAt, formAt, openingAt, Whole, OpensAt, tested, restAfter}
 use Rattle.atoms.specs.declared.Opening.{Opening}
 use Rattle.atoms.specs.declared.Rest.{Rest}
 use Rattle.atoms.specs.declared.Rest.the-variants.{Left, NoAtom}
-use Rattle.atoms.proofs.Tests.{Loose}
 use Rattle.atoms.proofs.Standing.{term-least}
 
 -- From `at` on, with i pieces to be passed over and then n terms to be tested, which all stand in s, the pass answers b.
@@ -40,13 +38,18 @@ pub data Pass (s : List ℕ) (b : Bool) : ℕ → ℕ → ℕ → Type 0 where
       → b ≡ false → Pass s b at i n
 
 module _ {s : List ℕ} {b : Bool} where
-  pub fits : {at i n : ℕ} → Pass s b at i n → at + i + n ≤ length s
+  fits : {at i n : ℕ} → Pass s b at i n → at + i + n ≤ length s
   fits (ended h z e) = h
   fits (went h z e q p) = h
   fits (stopped h z e w q) = h
 
+  whole-head : {at i n : ℕ} → Pass s b at i n → 0 < n → at + openingAt s at .words ≤ length s
+  whole-head (ended h z e) l = absurd (omega arith)
+  whole-head (went h z e q p) l = omega (arith, fits p)
+  whole-head (stopped h z e w q) l = w
+
   -- the way on from a head is one, and so is the answer
-  pub again : {at i n j m : ℕ} → Pass s b at i n → 0 < n → restAfter (openingAt s at) i n ≡ Left j m → Pass s b (at + openingAt s at .words) j m
+  again : {at i n j m : ℕ} → Pass s b at i n → 0 < n → restAfter (openingAt s at) i n ≡ Left j m → Pass s b (at + openingAt s at .words) j m
   again (ended h z e) l a = absurd (omega arith)
   again {at} {i} {n} {j} {m} (went {j = j′} {m = m′} h z e q p) l a =
       let x : j′ ≡ j = cc in
@@ -54,32 +57,32 @@ module _ {s : List ℕ} {b : Bool} where
       rw (q, x, y) at p
   again (stopped h z e w q) l a = never cc
 
-  pub says-no : {at i n : ℕ} → Pass s b at i n → 0 < n → restAfter (openingAt s at) i n ≡ NoAtom → b ≡ false
+  says-no : {at i n : ℕ} → Pass s b at i n → 0 < n → restAfter (openingAt s at) i n ≡ NoAtom → b ≡ false
   says-no (ended h z e) l a = absurd (omega arith)
   says-no (went h z e q p) l a = never cc
   says-no (stopped h z e w q) l a = q
 
-  pub whole-head : {at i n : ℕ} → Pass s b at i n → 0 < n → at + openingAt s at .words ≤ length s
-  whole-head (ended h z e) l = absurd (omega arith)
-  whole-head (went h z e q p) l = omega (arith, fits p)
-  whole-head (stopped h z e w q) l = w
-
-  pub says-yes : {at i n : ℕ} → Pass s b at i n → n ≡ 0 → b ≡ true
+  says-yes : {at i n : ℕ} → Pass s b at i n → n ≡ 0 → b ≡ true
   says-yes (ended h z e) l = e
   says-yes (went h z e q p) l = absurd (omega arith)
   says-yes (stopped h z e w q) l = absurd (omega arith)
+
+-- what a head of the form P with the low byte n opens, before the word m
+abbrev opening : Parts → ℕ → ℕ → Opening
+opening P n m = record { parts = P; words = wordsOf P; pieces = piecesOf P n m }
 
 -- what a head of the kind k and the low byte a opens, where it stands
 module _ {s : List ℕ} {at to : ℕ} where
   opens : (k a : ℕ) {ws : List ℕ} → Held s (head k a ∷ ws) at to → a ≤ mostByte
       → openingAt s at ≡ opening (getD kinds k noRow .parts) a (getD s (at + 1) 0)
-  unfolding openingAt
-  opens k a h l =
+  unfolding openingAt piecesAt formAt
+  opens k a {ws} h l =
       let e : getD s at 0 % 256 ≡ a = omega (arith, first-word h) in
-      let r : getD kinds k noRow ≡ rowOf (getD s at 0) = of-kind (getD s at 0) k a (first-word h) l refl in
-      rw (e, sym r)
+      let f : formAt s at ≡ getD kinds k noRow .parts = ap (λ (r : Row). r .parts) (sym (of-kind (getD s at 0) k a (first-word h) l refl)) in
+      rw (e, f)
 
-  opens-fun : (o a : ℕ) {ws : List ℕ} → o ≤ 1 → Held s (head (2 + o) a ∷ ws) at to → a ≤ mostByte → openingAt s at ≡ opening Body a (getD s (at + 1) 0)
+  opens-fun : (o a : ℕ) {ws : List ℕ} → o ≤ 1 → Held s (head (2 + o) a ∷ ws) at to → a ≤ mostByte
+      → openingAt s at ≡ opening Body a (getD s (at + 1) 0)
   opens-fun zero a e h l = opens 2 a h l
   opens-fun (suc zero) a e h l = opens 3 a h l
   opens-fun (suc (suc o)) a e h l = absurd (omega arith)
@@ -88,9 +91,11 @@ module _ {s : List ℕ} {at to : ℕ} where
 module _ {s : List ℕ} {at : ℕ} (o : Opening) (e : openingAt s at ≡ o) where
   over : {b : Bool} {to i j n : ℕ} → to ≡ at + o .words → 0 < n → at < to → 0 < i → j ≡ i - 1 + o .pieces → Pass s b to j n → Pass s b at i n
   unfolding restAfter tested
-  over {to} {i} {j} {n} q z l c d p = went {at = at} {i = i} {n = n} {j = j} {m = n} {to = to} (omega (arith, fits p)) z (simp (e, lt-ltb 0 i c, d)) (rw e q) p
+  over {to} {i} {j} {n} q z l c d p =
+      went {at = at} {i = i} {n = n} {j = j} {m = n} {to = to} (omega (arith, fits p)) z (simp (e, lt-ltb 0 i c, d)) (rw e q) p
 
-  on : {b : Bool} {to j n m : ℕ} → to ≡ at + o .words → tested (o .parts) (o .pieces) n ≡ Left j m → 0 < n → at + n ≤ length s → Pass s b to j m → Pass s b at 0 n
+  on : {b : Bool} {to j n m : ℕ} → to ≡ at + o .words → tested (o .parts) (o .pieces) n ≡ Left j m → 0 < n → at + n ≤ length s → Pass s b to j m
+      → Pass s b at 0 n
   unfolding restAfter tested
   on {to} {j} {n} {m} q c z l p = went {at = at} {i = 0} {n = n} {j = j} {m = m} {to = to} (omega arith) z (simp (e, c)) (rw e q) p
 
@@ -101,7 +106,7 @@ module _ {s : List ℕ} {at : ℕ} (o : Opening) (e : openingAt s at ≡ o) wher
 -- What stands in a function's body is passed over: a term is one piece, a list and arms are as many as they have.
 module _ {s : List ℕ} {b : Bool} {n : ℕ} (z : 0 < n) where
   mutual
-    unfolding words size sizeᵃ opening
+    unfolding words size sizeᵃ wordsOf piecesOf
 
     pass : {t : Term} {at to i j : ℕ} → Ranged rules t → Held s (words rules t) at to → j ≡ i + 1 → Pass s b to i n → Pass s b at j n
     pass (r-var {i = v} h) k e p = over _ (opens 1 v k h) (k .past) z (omega (arith, k .past)) (omega arith) (omega arith) p
@@ -126,7 +131,7 @@ module _ {s : List ℕ} {b : Bool} {n : ℕ} (z : 0 < n) where
         (pass r (first-run (words rules m) (wordsᵃ rules ps) k′) refl (passᵃ rs (second-run (words rules m) (wordsᵃ rules ps) k′) refl p))
 
     passᵗ : {ts : Terms} {at to i j : ℕ} → Rangedᵗ rules ts → Held s (wordsᵗ rules ts) at to → j ≡ i + size ts → Pass s b to i n → Pass s b at j n
-    passᵗ {i} r-nil k e p = subst₂ (λ (x y : ℕ). Pass s b x y n) (omega (arith, k .past)) (omega arith) p
+    passᵗ r-nil k e p = subst₂ (λ (x y : ℕ). Pass s b x y n) (omega (arith, k .past)) (omega arith) p
     passᵗ (r-cons {t} {ts} r rs) k e p =
         pass r (first-run (words rules t) (wordsᵗ rules ts) k) (omega arith) (passᵗ rs (second-run (words rules t) (wordsᵗ rules ts) k) refl p)
 
@@ -145,7 +150,7 @@ body (suc n) r k p = pass (omega arith) r k refl p
 -- What must be an atom is tested, and after it what stands behind it.
 module _ {s : List ℕ} where
   mutual
-    unfolding words size sizeᵃ opening tested atom
+    unfolding words size sizeᵃ wordsOf piecesOf tested atom
 
     test : {b : Bool} {t : Term} {at to n m : ℕ} → Ranged rules t → Held s (words rules t) at to → m ≡ n + 1 → Pass s b to 0 n
         → Pass s (atom t && b) at 0 m
@@ -170,41 +175,40 @@ module _ {s : List ℕ} where
         subst (λ (x : Bool). Pass s x at 0 m) (sym (and-assoc (atom t) (atoms ts) b))
         (test r (first-run (words rules t) (wordsᵗ rules ts) k) (omega arith) (testᵗ rs (second-run (words rules t) (wordsᵗ rules ts) k) refl p))
 
--- The pass over what stands at `at`, whatever term of d levels that is, has come to the place `to`, with i pieces and n terms left.
+-- The pass over the term of d levels that stands at `at`, whatever term that is, has come to the place `to`, with i pieces and n terms left.
 pub record Going (d : ℕ) (s : List ℕ) (at to i n : ℕ) : Type 0 where
   pub each : (t : Term) (e : ℕ) → Seen (term d) s at e t → Pass s (atom t) to i n
   pub room : to + i + n ≤ length s
 
 module _ {d : ℕ} {s : List ℕ} {at : ℕ} (k : Stands (term d) s at) where
+  going : {to i n : ℕ} → ((t : Term) (e : ℕ) → Seen (term d) s at e t → Pass s (atom t) to i n) → Going d s at to i n
+  going f = record { each = f; room = fits (f (k .thing) (k .to) (k .seen)) }
+
   -- it begins with one term to be tested
-  first : (t : Term) (e : ℕ) → Seen (term d) s at e t → Pass s (atom t) at 0 1
-  first t e x =
+  pub begins : Going d s at at 0 1
+  begins = going λ t e x.
       let w : e ≤ length s = ends (term-least t .0) (x .held) in
       subst (λ (b : Bool). Pass s b at 0 1) (and-true (atom t)) (test (x .good .0) (x .held) refl (ended {at = e} {i = 0} {n = 0} (omega arith) refl refl))
 
-  pub begins : Going d s at at 0 1
-  begins = record { each = first; room = fits (first (k .thing) (k .to) (k .seen)) }
-
   module _ {to i n : ℕ} (g : Going d s at to i n) where
-    pub head-there : 0 < n → Whole s to
+    pub head-there : 0 < n → Whole (formAt s to) s to
+    unfolding openingAt
     head-there z = record { inside = whole-head (g .each (k .thing) (k .to) (k .seen)) z }
 
-    -- it ends where no term is left
-    pub yes : n ≤ 0 → AtomAt d s at true
-    yes z = record { is = λ t e x. sym (says-yes (g .each t e x) (omega arith)) }
+    -- it ends where none is left
+    pub all-tested : n ≤ 0 → AtomAt d s at true
+    all-tested z = record { is = λ t e x. sym (says-yes (g .each t e x) (omega arith)) }
 
-    -- what a head leaves: a pass that goes on behind it, or the answer
+    -- after a head it goes on, or ends
     module _ {o : Opening} {r : Rest} (z : 0 < n) (h : OpensAt o s to) (q : r ≡ restAfter o i n) where
       after : {x : Rest} → r ≡ x → restAfter (openingAt s to) i n ≡ x
       after e = ap (λ (y : Opening). restAfter y i n) (sym (h .is)) ∙ sym q ∙ e
 
-      pub goes : {j m : ℕ} → r ≡ Left j m → Going d s at (to + o .words) j m
-      goes {j} {m} e =
-          let f : (t : Term) (y : ℕ) → Seen (term d) s at y t → Pass s (atom t) (to + o .words) j m = λ t y x.
-          subst (λ (y : Opening). Pass s (atom t) (to + y .words) j m) (sym (h .is)) (again (g .each t y x) z (after e)) in
-          record { each = f; room = fits (f (k .thing) (k .to) (k .seen)) }
+      pub goes-on : {j m : ℕ} → r ≡ Left j m → Going d s at (to + o .words) j m
+      goes-on {j} {m} e = going λ t y x.
+          subst (λ (u : Opening). Pass s (atom t) (to + u .words) j m) (sym (h .is)) (again (g .each t y x) z (after e))
 
-      pub no : r ≡ NoAtom → AtomAt d s at false
-      no e = record { is = λ t y x. sym (says-no (g .each t y x) z (after e)) }
+      pub no-atom : r ≡ NoAtom → AtomAt d s at false
+      no-atom e = record { is = λ t y x. sym (says-no (g .each t y x) z (after e)) }
 
-pub ruleset passes = (begins, head-there, yes, goes, no, needs)
+pub ruleset passes = (begins, head-there, all-tested, goes-on, no-atom, needs)

@@ -10,11 +10,10 @@ use Rattle.language.specs.Term.{rules, Term, Terms, Arms, var, kvar, fun, call,
 use Rattle.language.specs.Words.{head, words, wordsᵃ}
 use Rattle.language.specs.Limits.{Rangedᵗ, Rangedᵃ, r-nil, r-cons, r-none, r-arm, depth}
 use Rattle.language.specs.Places.{Held}
-use Rattle.language.specs.declared.Parts.{Parts}
 use Rattle.language.specs.declared.Parts.the-variants.{Nothing, Body, FunctionAndArguments, BoundAndBody, CountAndArguments, SubjectAndArms, ArityAndBody}
 use Rattle.language.proofs.Places.{first-run, second-run, first-word, next-words, there}
-use Rattle.atoms.specs.Standing.{Part, term, terms, arms, over, _then_, Thing, source, Seen, Stands, Ends, Parted, Counted}
-use Rattle.atoms.proofs.Opened.{Opened, o-var, o-fun, o-call, o-bind, o-con, o-cases, opened}
+use Rattle.atoms.specs.Standing.{Part, term, terms, arms, over, _then_, Thing, source, Seen, Stands, Ends, Counted}
+use Rattle.atoms.proofs.Opened.{Opened, o-var, o-fun, o-call, o-bind, o-con, o-cases}
 
 -- the first of two parts, and the second where the first is known to end
 pub first : {P Q : Part} {s : List ℕ} {at to : ℕ} {x : Thing (P then Q)} → Seen (P then Q) s at to x
@@ -37,23 +36,6 @@ ends-then E F = record { end = λ x e k. F .end (x .1) e (second k E) }
 pub record Some (Q : Part) (s : List ℕ) (at to : ℕ) : Type 0 where
   pub thing : Thing Q
   pub seen : Seen Q s at to thing
-
--- each part P that stands at `at` can be taken apart as a part Q
-pub record Unfolds (P Q : Part) (s : List ℕ) (at : ℕ) : Type 0 where
-  pub into : (x : Thing P) (to : ℕ) → Seen P s at to x → Some Q s at to
-
-pub stands-as : {P Q : Part} {s : List ℕ} {at : ℕ} → Unfolds P Q s at → Stands P s at → Stands Q s at
-stands-as U k = let y = U .into (k .thing) (k .to) (k .seen) in record { thing = y .thing; to = k .to; seen = y .seen }
-
-pub ends-as : {P Q : Part} {s : List ℕ} {at to : ℕ} → Unfolds P Q s at → Ends Q s at to → Ends P s at to
-ends-as U E = record { end = λ x e k. let y = U .into x e k in E .end (y .thing) e (y .seen) }
-
--- the parts that stand where two stand
-pub stands-first : {P Q : Part} {s : List ℕ} {at : ℕ} → Stands (P then Q) s at → Stands P s at
-stands-first k = record { thing = k .thing .0; to = _; seen = first (k .seen) }
-
-pub stands-second : {P Q : Part} {s : List ℕ} {at i : ℕ} → Stands (P then Q) s at → Ends P s at i → Stands Q s i
-stands-second k E = record { thing = k .thing .1; to = k .to; seen = second (k .seen) E }
 
 -- What a term is made of, by its head; a list and arms by their number. The words stay the same, so that only what is asked of the parts
 -- is shown.
@@ -145,47 +127,6 @@ module _ {s : List ℕ} {at to d : ℕ} where
 -- no term has an arm's head
 pub no-arm : {t : Term} {A : Type 0} → Opened ArityAndBody t → A
 no-arm = elim [ ]
-
--- The same at a place: how each part that stands there is taken apart, by what the code has tested.
-module _ {s : List ℕ} {at : ℕ} (d : ℕ) where
-  -- by the view of a term that the head opens
-  by-head : {P : Parts} {Q : Part} → Parted P d s at → ((t : Term) (to : ℕ) → Opened P t → Seen (term d) s at to t → Some Q s at to)
-      → Unfolds (term d) Q s at
-  by-head H f = record { into = λ t to k. f t to (opened (k .good .0) (k .held) H) k }
-
-  pub as-var : Parted Nothing d s at → Unfolds (term d) (over 1) s at
-  as-var H = by-head H (λ t to. open-var)
-
-  pub as-fun : Parted Body d s at → Unfolds (term d) (over 1 then term (d - 1)) s at
-  as-fun H = by-head H (λ t to. open-fun)
-
-  pub as-call : Parted FunctionAndArguments d s at → Unfolds (term d) (over 1 then terms (d - 1) (getD s at 0 % 256 + 1)) s at
-  as-call H = by-head H (λ t to. open-call)
-
-  pub as-bind : Parted BoundAndBody d s at → Unfolds (term d) (over 1 then term (d - 1) then term (d - 1)) s at
-  as-bind H = by-head H (λ t to. open-bind)
-
-  pub as-con : {n : ℕ} → Parted CountAndArguments d s at → n ≡ getD s (at + 1) 0 → Unfolds (term d) (over 2 then terms (d - 1) n) s at
-  as-con H e = by-head H (λ t to. open-con e)
-
-  pub as-cases : Parted SubjectAndArms d s at → Unfolds (term d) (over 1 then term (d - 1) then arms (d - 1) (getD s at 0 % 256)) s at
-  as-cases H = by-head H (λ t to. open-cases)
-
-  module _ {n : ℕ} where
-    pub as-nil : n ≡ 0 → Unfolds (terms d n) (over 0) s at
-    as-nil z = record { into = λ ts to k. open-nil z (k .good .0) k }
-
-    pub as-cons : (n ≡ 0 → ⊥) → Unfolds (terms d n) (term d then terms d (n - 1)) s at
-    as-cons z = record { into = λ ts to k. open-cons z (k .good .0) k }
-
-    pub as-none : n ≡ 0 → Unfolds (arms d n) (over 0) s at
-    as-none z = record { into = λ ps to k. open-none z (k .good .0) k }
-
-    pub as-arm : (n ≡ 0 → ⊥) → Unfolds (arms d n) (over 2 then term d then arms d (n - 1)) s at
-    as-arm z = record { into = λ ps to k. open-arm z (k .good .0) k }
-
-  pub as-arity : {Q : Part} → Parted ArityAndBody d s at → Unfolds (term d) Q s at
-  as-arity H = by-head H (λ t to v k. no-arm v)
 
 -- the second word of a constructor
 pub count-there : {s : List ℕ} {at to d : ℕ} {t : Term} → Opened CountAndArguments t → Seen (term d) s at to t → Counted (getD s (at + 1) 0) s at

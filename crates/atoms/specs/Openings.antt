@@ -12,34 +12,53 @@ use Rattle.atoms.specs.declared.Opening.{Opening}
 use Rattle.atoms.specs.declared.Rest.{Rest}
 use Rattle.atoms.specs.declared.Rest.the-variants.{Left, NoAtom}
 
--- A head of the form P with the low byte n, before the word m: its own words, and the terms and arms that follow them. A call has its
--- function and n arguments, a constructor m arguments, a match its subject and n arms.
-unfoldable pub opening : Parts → ℕ → ℕ → Opening
-opening Nothing n m = record { parts = Nothing; words = 1; pieces = 0 }
-opening Body n m = record { parts = Body; words = 1; pieces = 1 }
-opening FunctionAndArguments n m = record { parts = FunctionAndArguments; words = 1; pieces = n + 1 }
-opening BoundAndBody n m = record { parts = BoundAndBody; words = 1; pieces = 2 }
-opening CountAndArguments n m = record { parts = CountAndArguments; words = 2; pieces = m }
-opening SubjectAndArms n m = record { parts = SubjectAndArms; words = 1; pieces = n + 1 }
-opening ArityAndBody n m = record { parts = ArityAndBody; words = 2; pieces = 1 }
+-- the words of a head of the form P: a constructor's and an arm's have a count
+unfoldable pub wordsOf : Parts → ℕ
+wordsOf Nothing = 1
+wordsOf Body = 1
+wordsOf FunctionAndArguments = 1
+wordsOf BoundAndBody = 1
+wordsOf CountAndArguments = 2
+wordsOf SubjectAndArms = 1
+wordsOf ArityAndBody = 2
+
+-- the pieces, terms and arms, behind a head of the form P with the low byte n, before the word m: a call has its function and n arguments, a
+-- constructor m arguments, a match its subject and n arms
+unfoldable pub piecesOf : Parts → ℕ → ℕ → ℕ
+piecesOf Nothing n m = 0
+piecesOf Body n m = 1
+piecesOf FunctionAndArguments n m = n + 1
+piecesOf BoundAndBody n m = 2
+piecesOf CountAndArguments n m = m
+piecesOf SubjectAndArms n m = n + 1
+piecesOf ArityAndBody n m = 1
+
+-- the same where the head stands at `at`, and its form
+unfoldable pub piecesAt : Parts → List ℕ → ℕ → ℕ
+unfolding piecesOf
+piecesAt P s at = piecesOf P (getD s at 0 % 256) (getD s (at + 1) 0)
+
+unfoldable pub formAt : List ℕ → ℕ → Parts
+unfolding rowOf
+formAt s at = rowOf (getD s at 0) .parts
 
 -- what the head at `at` opens
 unfoldable pub openingAt : List ℕ → ℕ → Opening
-unfolding opening rowOf
-openingAt s at = opening (rowOf (getD s at 0) .parts) (getD s at 0 % 256) (getD s (at + 1) 0)
+unfolding wordsOf piecesAt formAt
+openingAt s at = record { parts = formAt s at; words = wordsOf (formAt s at); pieces = piecesAt (formAt s at) s at }
 
--- its words are in s
-pub record Whole (s : List ℕ) (at : ℕ) : Type 0 where
-  pub inside : at + openingAt s at .words ≤ length s
+-- the words of a head of the form P are in s at `at`
+pub record Whole (P : Parts) (s : List ℕ) (at : ℕ) : Type 0 where
+  pub inside : at + wordsOf P ≤ length s
 
--- o is what it opens
+-- o is what the head at `at` opens
 pub record OpensAt (o : Opening) (s : List ℕ) (at : ℕ) : Type 0 where
   pub is : o ≡ openingAt s at
   pub some : 0 < o .words
   pub inside : at + o .words ≤ length s
 
--- What is left after a head of the form P with p pieces, where it is that of the first of n terms to be tested: "An atom is a variable, a
--- function, a recursive function, or a constructor whose arguments are all atoms."
+-- What is left after a head of the form P with p pieces, where it is the head of the first of n terms that must be atoms. "An atom is a
+-- variable, a function, a recursive function, or a constructor whose arguments are all atoms."
 unfoldable pub tested : Parts → ℕ → ℕ → Rest
 tested Nothing p n = Left 0 (n - 1)
 tested Body p n = Left p (n - 1)
@@ -49,12 +68,16 @@ tested CountAndArguments p n = Left 0 (n - 1 + p)
 tested SubjectAndArms p n = NoAtom
 tested ArityAndBody p n = NoAtom
 
--- the same where i pieces are to be passed over before these terms
+-- the same where i pieces, which stand in a function's body, are to be passed over before these terms
 unfoldable pub restAfter : Opening → ℕ → ℕ → Rest
 unfolding tested
 restAfter o i n = cond (ltb 0 i) (Left (i - 1 + o .pieces) n) (tested (o .parts) (o .pieces) n)
 
--- so few that what a head adds to them can be counted, and one to be tested
-pub record Few (i n : ℕ) : Type 0 where
+-- counts up to here, and one word's number more, are added without wrapping
+abbrev pub mostCounted : ℕ
+mostCounted = 9223372036854775808
+
+-- so many are left that one more head can be counted, and a term is to be tested
+pub record Countable (i n : ℕ) : Type 0 where
   pub some : 0 < n
-  pub few : i + n ≤ 9223372036854775808
+  pub few : i + n ≤ mostCounted

@@ -4,7 +4,7 @@ use language::Parts;
 ghost use Rattle.language.specs.declared.Parts.the-variants.{CountAndArguments};
 ghost use mathlib.Core.Path.{_≡_};
 ghost use Rattle.atoms.specs.Standing.{term, Stands, AtomAt, Parted, Counted};
-ghost use Rattle.atoms.specs.Openings.{Whole, OpensAt, Few, restAfter};
+ghost use Rattle.atoms.specs.Openings.{wordsOf, piecesAt, formAt, Whole, OpensAt, Countable, restAfter};
 
 // The words before the parts of a term; before those of a constructor and the body of an arm a count stands too.
 const HEAD: usize = 1;
@@ -43,58 +43,58 @@ enum Rest {
     NoAtom,
 }
 
+// The words of a head of this form: a constructor's and an arm's have a count.
+fn words_of(parts: Parts) -> usize
+    ensures { λ r. ⌜ r ≡ wordsOf parts ⌝ }
+{
+    match parts {
+        Parts::Nothing => HEAD,
+        Parts::Body => HEAD,
+        Parts::FunctionAndArguments => HEAD,
+        Parts::BoundAndBody => HEAD,
+        Parts::CountAndArguments => HEAD_AND_COUNT,
+        Parts::SubjectAndArms => HEAD,
+        Parts::ArityAndBody => HEAD_AND_COUNT,
+    }
+}
+
+// How many pieces stand behind the head at `at`, which has this form.
+fn pieces_at(s: &[u16], at: usize, parts: Parts) -> u16
+    requires { ⌜ Whole parts (now s) at ⌝ }
+    ensures { λ r. ⌜ r ≡ piecesAt parts (now (s .entry)) at ⌝ }
+{
+    let low = s[at] % language::LOW_BYTE;
+    match parts {
+        Parts::Nothing => 0,
+        Parts::Body => 1,
+        Parts::FunctionAndArguments => low + 1,
+        Parts::BoundAndBody => 2,
+        Parts::CountAndArguments => s[at + 1],
+        Parts::SubjectAndArms => low + 1,
+        Parts::ArityAndBody => 1,
+    }
+}
+
 // What the head at `at`, of a term or of an arm, opens.
 fn opening_at(s: &[u16], at: usize) -> Opening
-    requires { ⌜ Whole (now s) at ⌝ }
+    requires { ⌜ Whole (formAt (now s) at) (now s) at ⌝ }
     ensures { λ r. ⌜ OpensAt r (now (s .entry)) at ⌝ }
 {
-    let w = s[at];
-    let low = w % language::LOW_BYTE;
-    let row = language::row_of(w);
+    let row = language::row_of(s[at]);
     let parts = row.parts;
-    match parts {
-        Parts::Nothing => Opening {
-            parts,
-            words: HEAD,
-            pieces: 0,
-        },
-        Parts::Body => Opening {
-            parts,
-            words: HEAD,
-            pieces: 1,
-        },
-        Parts::FunctionAndArguments => Opening {
-            parts,
-            words: HEAD,
-            pieces: low + 1,
-        },
-        Parts::BoundAndBody => Opening {
-            parts,
-            words: HEAD,
-            pieces: 2,
-        },
-        Parts::CountAndArguments => Opening {
-            parts,
-            words: HEAD_AND_COUNT,
-            pieces: s[at + 1],
-        },
-        Parts::SubjectAndArms => Opening {
-            parts,
-            words: HEAD,
-            pieces: low + 1,
-        },
-        Parts::ArityAndBody => Opening {
-            parts,
-            words: HEAD_AND_COUNT,
-            pieces: 1,
-        },
+    let words = words_of(parts);
+    let pieces = pieces_at(s, at, parts);
+    Opening {
+        parts,
+        words,
+        pieces,
     }
 }
 
 // What is left after a head, where `inside` pieces were to be passed over and then `atoms` terms to be tested. A function is an
 // atom whatever its body is: the body is passed over.
 fn rest_after(head: Opening, inside: usize, atoms: usize) -> Rest
-    requires { ⌜ Few inside atoms ⌝ }
+    requires { ⌜ Countable inside atoms ⌝ }
     ensures { λ r. ⌜ r ≡ restAfter head inside atoms ⌝ }
 {
     let parts = head.parts;
