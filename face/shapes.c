@@ -4,7 +4,7 @@
 #include "../peer/rule.h"
 #include "../peer/term.h"
 
-enum { LEAF = 2, PARTS = 8, LET_LEAST = 5, TOWER_MOST = 32, LEVELS = RULE_DEPTH_MOST - 2 };
+enum { LEAF = 2, PARTS = 8, LET_LEAST = 5, TOWER_MOST = 32, CALL_WORDS = 5, LEVELS = RULE_DEPTH_MOST - 2, VALUE_LEVELS = 5 };
 
 /* So many words in parts, as even as can be. */
 static void put_even(struct word_sink *sink, void (*put)(struct word_sink *, size_t), size_t words, size_t parts)
@@ -89,31 +89,55 @@ static void put_functions(struct word_sink *sink, size_t words)
     put_kind(sink, KIND_VARIABLE, 0);
 }
 
+/* The identity, called with a constructor. */
+static void put_call(struct word_sink *sink)
+{
+    const struct word_list call = WORD_LIST(0x0401, 0x0201, 0x0100, 0x0600, 0x0000);
+
+    put_words(sink, call);
+}
+
 /*
  * Constructors that are no atoms, each with a value before the next one; the innermost holds a call. Whether each of them is an
  * atom is seen only at its end. As many levels as there are words for, up to the depth's limit.
  */
 static void put_constructors(struct word_sink *sink, size_t words)
 {
-    const struct word_list call = WORD_LIST(0x0401, 0x0201, 0x0100, 0x0600, 0x0000);
-    size_t levels = (words - call.count) / (2 * LEAF);
+    size_t levels = (words - CALL_WORDS) / (2 * LEAF);
 
     if (levels > LEVELS - 2)
         levels = LEVELS - 2;
-    for (words -= call.count; levels > 0; levels--) {
+    for (words -= CALL_WORDS; levels > 0; levels--) {
         size_t share = words / levels;
 
         put_two(sink, KIND_CONSTRUCTOR, levels, 2);
         put_filler(sink, share - 2);
         words -= share;
     }
-    put_words(sink, call);
+    put_call(sink);
+}
+
+/* The same with all values in the innermost, so that each of the others stands around all of them. */
+static void put_surrounding(struct word_sink *sink, size_t words)
+{
+    size_t levels = (words - CALL_WORDS) / (2 * LEAF);
+
+    if (levels > LEVELS - VALUE_LEVELS)
+        levels = LEVELS - VALUE_LEVELS;
+    for (words -= CALL_WORDS; levels > 1; levels--) {
+        put_two(sink, KIND_CONSTRUCTOR, levels, 1);
+        words -= 2;
+    }
+    put_two(sink, KIND_CONSTRUCTOR, levels, 2);
+    put_filler(sink, words - 2);
+    put_call(sink);
 }
 
 const struct shape grown_shapes[GROWN_SHAPES] = {
     { "calls", put_calls },         { "lets", put_lets },
     { "matches", put_matches },     { "wide matches", put_wide_matches },
     { "functions", put_functions }, { "nested constructors", put_constructors },
+    { "surrounding constructors", put_surrounding },
 };
 
 /* One argument of the outermost function, for leaves of one word. */

@@ -11,7 +11,7 @@ struct shape {
     void (*put)(struct word_sink *sink, size_t words);
 };
 
-enum { GROWN_SHAPES = 6, DEEP_SHAPES = 6 };
+enum { GROWN_SHAPES = 7, DEEP_SHAPES = 6 };
 
 /* Rules of exactly so many words, from 64 on. Sizes that are eight times each other are made alike. */
 extern const struct shape grown_shapes[GROWN_SHAPES];

@@ -11,7 +11,7 @@ use lib.ListN.{length, getD}
 use borrow.Author.Needs.{needs}
 use borrow.Author.Tests.{lt-ltb}
 use Rattle.language.specs.Term.{rules, Term, Terms, Arms, size, sizeᵃ}
-use Rattle.language.specs.Kinds.{mostByte, noRow, kinds, rowOf}
+use Rattle.language.specs.Kinds.{mostByte, noRow, kinds}
 use Rattle.language.specs.Words.{head, words, wordsᵗ, wordsᵃ}
 use Rattle.language.specs.Limits.{Ranged, Rangedᵗ, Rangedᵃ, r-var, r-kvar, r-fun, r-call, r-bind, r-con, r-cases, r-nil, r-cons, r-none, r-arm}
 use Rattle.language.specs.Run.{atom, atoms}
@@ -191,24 +191,24 @@ module _ {d : ℕ} {s : List ℕ} {at : ℕ} (k : Stands (term d) s at) where
       subst (λ (b : Bool). Pass s b at 0 1) (and-true (atom t)) (test (x .good .0) (x .held) refl (ended {at = e} {i = 0} {n = 0} (omega arith) refl refl))
 
   module _ {to i n : ℕ} (g : Going d s at to i n) where
-    pub head-there : 0 < n → Whole (formAt s to) s to
+    pub head-there : {m : ℕ} → m < n → Whole (formAt s to) s to
     unfolding openingAt
-    head-there z = record { inside = whole-head (g .each (k .thing) (k .to) (k .seen)) z }
+    head-there z = record { inside = whole-head (g .each (k .thing) (k .to) (k .seen)) (omega arith) }
 
     -- it ends where none is left
     pub all-tested : n ≤ 0 → AtomAt d s at true
     all-tested z = record { is = λ t e x. sym (says-yes (g .each t e x) (omega arith)) }
 
     -- after a head it goes on, or ends
-    module _ {o : Opening} {r : Rest} (z : 0 < n) (h : OpensAt o s to) (q : r ≡ restAfter o i n) where
+    module _ {o : Opening} {r : Rest} {l : ℕ} (z : l < n) (h : OpensAt o s to) (q : r ≡ restAfter o i n) where
       after : {x : Rest} → r ≡ x → restAfter (openingAt s to) i n ≡ x
       after e = ap (λ (y : Opening). restAfter y i n) (sym (h .is)) ∙ sym q ∙ e
 
       pub goes-on : {j m : ℕ} → r ≡ Left j m → Going d s at (to + o .words) j m
       goes-on {j} {m} e = going λ t y x.
-          subst (λ (u : Opening). Pass s (atom t) (to + u .words) j m) (sym (h .is)) (again (g .each t y x) z (after e))
+          subst (λ (u : Opening). Pass s (atom t) (to + u .words) j m) (sym (h .is)) (again (g .each t y x) (omega arith) (after e))
 
       pub no-atom : r ≡ NoAtom → AtomAt d s at false
-      no-atom e = record { is = λ t y x. sym (says-no (g .each t y x) z (after e)) }
+      no-atom e = record { is = λ t y x. sym (says-no (g .each t y x) (omega arith) (after e)) }
 
 pub ruleset passes = (begins, head-there, all-tested, goes-on, no-atom, needs)

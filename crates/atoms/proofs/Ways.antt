@@ -1,7 +1,7 @@
 -- One law for each way out of the functions that read one head: what was tested and called on the way, and what is then right to answer.
 -- `search` finds a law's premises in what is known at that place of the code.
 -- Assumes nothing.
-use Prim.Native.Nat.{ℕ, _+_, _-_, _%_, _≤_, _<_}
+use Prim.Native.Nat.{ℕ, _+_, _-_, _≤_, _<_}
 use mathlib.Core.Path.{_≡_, refl, sym, ap, subst, _∙_}
 use mathlib.Core.List.{List}
 use native.Mathlib.Omega.{arith}
