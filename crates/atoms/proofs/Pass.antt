@@ -3,7 +3,7 @@
 -- in a function's body, it is one piece less to pass over; else its answer is joined to that of what stands behind it.
 -- Assumes nothing.
 use Prim.Native.Nat.{ℕ, zero, suc, _+_, _-_, _%_, _≤_, _<_}
-use mathlib.Core.Path.{_≡_, refl, sym, ap, subst, subst₂, _∙_}
+use mathlib.Core.Path.{_≡_, refl, sym, ap, ap₂, subst, subst₂, _∙_}
 use mathlib.Core.Bool.{Bool, true, false, _&&_, and-assoc, and-true}
 use mathlib.Core.List.{List, _∷_}
 use native.Mathlib.Omega.{arith}
@@ -154,17 +154,17 @@ module _ {s : List ℕ} where
 
     test : {b : Bool} {t : Term} {at to n m : ℕ} → Ranged rules t → Held s (words rules t) at to → m ≡ n + 1 → Pass s b to 0 n
         → Pass s (atom t && b) at 0 m
-    test {b} (r-var {i = v} h) k e p = on _ (opens 1 v k h) (k .past) (ap (Left 0) (omega arith)) (omega arith) (omega (arith, fits p, k .past)) p
+    test {b} (r-var {i = v} h) k e p = on _ (opens 1 v k h) (k .past) (ap₂ Left (omega arith) (omega arith)) (omega arith) (omega (arith, fits p, k .past)) p
     test (r-kvar a h) k e p = absurd a
     test {n} (r-fun {o} {a} {b = c} l h x r) k e p =
-        on _ (opens-fun o (a + 0) l k (omega arith)) refl (ap (Left 1) (omega arith)) (omega arith) (omega (arith, fits p, k .past))
+        on _ (opens-fun o (a + 0) l k (omega arith)) refl (ap₂ Left (omega arith) (omega arith)) (omega arith) (omega (arith, fits p, k .past))
         (body n r (next-words k) p)
     test (r-call {f} {ps} l h r rs) k e p = off _ (opens 4 (size ps) k (omega arith)) refl refl (omega arith) (omega (arith, fits p, k .past))
     test (r-bind {m} {b = c} r r′) k e p = off _ (opens 5 0 k (omega arith)) refl refl (omega arith) (omega (arith, fits p, k .past))
     test {n} {m} (r-con {t} {ps} h l rs) k e p =
         let k′ = next-words k in
         let c = first-word k′ in
-        on _ (opens 6 t k h) {m = n + size ps} (omega arith) (ap (Left 0) (omega arith)) (omega arith) (omega (arith, fits p, k .past))
+        on _ (opens 6 t k h) {m = n + size ps} (omega arith) (ap₂ Left (omega arith) (omega arith)) (omega arith) (omega (arith, fits p, k .past))
         (testᵗ rs (next-words k′) refl p)
     test (r-cases {m} {ps} l h r rs) k e p = off _ (opens 7 (sizeᵃ ps) k (omega arith)) refl refl (omega arith) (omega (arith, fits p, k .past))
 
