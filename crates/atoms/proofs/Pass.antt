@@ -23,7 +23,7 @@ use Rattle.language.proofs.Clash.{never}
 use Rattle.language.proofs.Heads.{of-kind}
 use Rattle.language.proofs.Places.{first-run, second-run, first-word, next-words, ends}
 use Rattle.atoms.specs.Standing.{term, Stands, Seen, AtomAt}
-use Rattle.atoms.specs.Openings.{wordsOf, piecesOf, piecesAt, formAt, openingAt, Whole, OpensAt, tested, restAfter}
+use Rattle.atoms.specs.Openings.{headWords, piecesOf, piecesAt, formAt, openingAt, Whole, OpensAt, tested, restAfter}
 use Rattle.atoms.specs.declared.Opening.{Opening}
 use Rattle.atoms.specs.declared.Rest.{Rest}
 use Rattle.atoms.specs.declared.Rest.the-variants.{Left, NoAtom}
@@ -69,7 +69,7 @@ module _ {s : List ℕ} {b : Bool} where
 
 -- what a head of the form P with the low byte n opens, before the word m
 abbrev opening : Parts → ℕ → ℕ → Opening
-opening P n m = record { parts = P; words = wordsOf P; pieces = piecesOf P n m }
+opening P n m = record { parts = P; words = headWords P; pieces = piecesOf P n m }
 
 -- what a head of the kind k and the low byte a opens, where it stands
 module _ {s : List ℕ} {at to : ℕ} where
@@ -106,7 +106,7 @@ module _ {s : List ℕ} {at : ℕ} (o : Opening) (e : openingAt s at ≡ o) wher
 -- What stands in a function's body is passed over: a term is one piece, a list and arms are as many as they have.
 module _ {s : List ℕ} {b : Bool} {n : ℕ} (z : 0 < n) where
   mutual
-    unfolding words size sizeᵃ wordsOf piecesOf
+    unfolding words size sizeᵃ headWords piecesOf
 
     pass : {t : Term} {at to i j : ℕ} → Ranged rules t → Held s (words rules t) at to → j ≡ i + 1 → Pass s b to i n → Pass s b at j n
     pass (r-var {i = v} h) k e p = over _ (opens 1 v k h) (k .past) z (omega (arith, k .past)) (omega arith) (omega arith) p
@@ -150,7 +150,7 @@ body (suc n) r k p = pass (omega arith) r k refl p
 -- What must be an atom is tested, and after it what stands behind it.
 module _ {s : List ℕ} where
   mutual
-    unfolding words size sizeᵃ wordsOf piecesOf tested atom
+    unfolding words size sizeᵃ headWords piecesOf tested atom
 
     test : {b : Bool} {t : Term} {at to n m : ℕ} → Ranged rules t → Held s (words rules t) at to → m ≡ n + 1 → Pass s b to 0 n
         → Pass s (atom t && b) at 0 m

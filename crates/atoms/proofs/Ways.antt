@@ -15,7 +15,7 @@ use Rattle.language.specs.declared.Row.{Row}
 use Rattle.language.specs.declared.Head.{Head}
 use Rattle.language.specs.declared.Head.the-variants.{Refused, Opens}
 use Rattle.atoms.specs.Standing.{term, Stands, Parted, Counted}
-use Rattle.atoms.specs.Openings.{wordsOf, piecesAt, formAt, openingAt, Whole, OpensAt, tested, restAfter}
+use Rattle.atoms.specs.Openings.{headWords, piecesAt, formAt, openingAt, Whole, OpensAt, tested, restAfter}
 use Rattle.atoms.specs.declared.Opening.{Opening}
 use Rattle.atoms.specs.declared.Rest.{Rest}
 use Rattle.atoms.specs.declared.Rest.the-variants.{Left}
@@ -39,8 +39,8 @@ module _ {s : List ℕ} {at d : ℕ} where
   counted k H = count-there (opened (k .seen .good .0) (k .seen .held) H) (k .seen)
 
 -- what a head opens, by its form
-a-word : (P : Parts) → 1 ≤ wordsOf P
-unfolding wordsOf
+a-word : (P : Parts) → 1 ≤ headWords P
+unfolding headWords
 a-word Nothing = omega arith
 a-word Body = omega arith
 a-word FunctionAndArguments = omega arith
@@ -49,16 +49,16 @@ a-word CountAndArguments = omega arith
 a-word SubjectAndArms = omega arith
 a-word ArityAndBody = omega arith
 
-pub words-by : (P : Parts) {Q : Parts} {w : ℕ} → P ≡ Q → w ≡ wordsOf Q → w ≡ wordsOf P
-words-by P e q = q ∙ ap wordsOf (sym e)
+pub words-by : (P : Parts) {Q : Parts} {w : ℕ} → P ≡ Q → w ≡ headWords Q → w ≡ headWords P
+words-by P e q = q ∙ ap headWords (sym e)
 
 module _ {P : Parts} {s : List ℕ} {at : ℕ} where
   pub head-inside : Whole P s at → at < length s
   head-inside l = omega (arith, a-word P, l .inside)
 
   pub second-inside : Whole P s at → P ≡ CountAndArguments → at + 1 < length s
-  unfolding wordsOf
-  second-inside l e = omega (arith, l .inside, ap wordsOf e)
+  unfolding headWords
+  second-inside l e = omega (arith, l .inside, ap headWords e)
 
   pub pieces-by : {Q : Parts} {p : ℕ} → Whole P s at → P ≡ Q → p ≡ piecesAt Q s at → p ≡ piecesAt P s at
   pieces-by l e q = q ∙ ap (λ (R : Parts). piecesAt R s at) (sym e)
@@ -72,7 +72,7 @@ module _ {s : List ℕ} {at : ℕ} (l : Whole (formAt s at) s at) {r : Row} (h :
   pub form-whole : Whole (r .parts) s at
   form-whole = subst (λ (P : Parts). Whole P s at) its-form l
 
-  pub opened-there : {w p : ℕ} → w ≡ wordsOf (r .parts) → p ≡ piecesAt (r .parts) s at → OpensAt (record { parts = r .parts; words = w; pieces = p }) s at
+  pub opened-there : {w p : ℕ} → w ≡ headWords (r .parts) → p ≡ piecesAt (r .parts) s at → OpensAt (record { parts = r .parts; words = w; pieces = p }) s at
   unfolding openingAt
   opened-there a b = record { is = simp (a, b, its-form); some = omega (arith, a-word (r .parts)); inside = omega (arith, form-whole .inside) }
 

@@ -13,14 +13,14 @@ use Rattle.atoms.specs.declared.Rest.{Rest}
 use Rattle.atoms.specs.declared.Rest.the-variants.{Left, NoAtom}
 
 -- the words of a head of the form P: a constructor's and an arm's have a count
-unfoldable pub wordsOf : Parts → ℕ
-wordsOf Nothing = 1
-wordsOf Body = 1
-wordsOf FunctionAndArguments = 1
-wordsOf BoundAndBody = 1
-wordsOf CountAndArguments = 2
-wordsOf SubjectAndArms = 1
-wordsOf ArityAndBody = 2
+unfoldable pub headWords : Parts → ℕ
+headWords Nothing = 1
+headWords Body = 1
+headWords FunctionAndArguments = 1
+headWords BoundAndBody = 1
+headWords CountAndArguments = 2
+headWords SubjectAndArms = 1
+headWords ArityAndBody = 2
 
 -- the pieces, terms and arms, behind a head of the form P with the low byte n, before the word m: a call has its function and n arguments, a
 -- constructor m arguments, a match its subject and n arms
@@ -44,12 +44,12 @@ formAt s at = rowOf (getD s at 0) .parts
 
 -- what the head at `at` opens
 unfoldable pub openingAt : List ℕ → ℕ → Opening
-unfolding wordsOf piecesAt formAt
-openingAt s at = record { parts = formAt s at; words = wordsOf (formAt s at); pieces = piecesAt (formAt s at) s at }
+unfolding headWords piecesAt formAt
+openingAt s at = record { parts = formAt s at; words = headWords (formAt s at); pieces = piecesAt (formAt s at) s at }
 
 -- the words of a head of the form P are in s at `at`
 pub record Whole (P : Parts) (s : List ℕ) (at : ℕ) : Type 0 where
-  pub inside : at + wordsOf P ≤ length s
+  pub inside : at + headWords P ≤ length s
 
 -- o is what the head at `at` opens
 pub record OpensAt (o : Opening) (s : List ℕ) (at : ℕ) : Type 0 where

@@ -4,7 +4,7 @@ use language::Parts;
 ghost use Rattle.language.specs.declared.Parts.the-variants.{CountAndArguments};
 ghost use mathlib.Core.Path.{_≡_};
 ghost use Rattle.atoms.specs.Standing.{term, Stands, AtomAt, Parted, Counted};
-ghost use Rattle.atoms.specs.Openings.{wordsOf, piecesAt, formAt, Whole, OpensAt, Countable, restAfter};
+ghost use Rattle.atoms.specs.Openings.{headWords, piecesAt, formAt, Whole, OpensAt, Countable, restAfter};
 
 // The words before the parts of a term; before those of a constructor and the body of an arm a count stands too.
 const HEAD: usize = 1;
@@ -44,8 +44,8 @@ enum Rest {
 }
 
 // The words of a head of this form: a constructor's and an arm's have a count.
-fn words_of(parts: Parts) -> usize
-    ensures { λ r. ⌜ r ≡ wordsOf parts ⌝ }
+fn head_words(parts: Parts) -> usize
+    ensures { λ r. ⌜ r ≡ headWords parts ⌝ }
 {
     match parts {
         Parts::Nothing => HEAD,
@@ -82,7 +82,7 @@ fn opening_at(s: &[u16], at: usize) -> Opening
 {
     let row = language::row_of(s[at]);
     let parts = row.parts;
-    let words = words_of(parts);
+    let words = head_words(parts);
     let pieces = pieces_at(s, at, parts);
     Opening {
         parts,
