@@ -1,6 +1,6 @@
--- The pass over a term's words answers whether the term is an atom. What it does at one head is `restAfter`; a whole pass is a chain of such
--- steps, from the end of the term back to its front. The words of each term in it are some steps of that chain: if the term stands
--- in a function's body, it is one piece less to pass over; else its answer is joined to that of what stands behind it.
+-- The pass over a term's words answers whether the term is an atom. What it does at one head is `restAfter`, and a whole pass is a chain of
+-- such steps. A term's words put some steps before a pass over what stands behind the term: where the term stands in a function's body,
+-- they pass over one piece; else they join the term's answer to that pass's.
 -- Assumes nothing.
 use Prim.Native.Nat.{ℕ, zero, suc, _+_, _-_, _%_, _≤_, _<_}
 use mathlib.Core.Path.{_≡_, refl, sym, ap, ap₂, subst, subst₂, _∙_}
@@ -51,7 +51,7 @@ module _ {s : List ℕ} {b : Bool} where
   -- the way on from a head is one, and so is the answer
   again : {at i n j m : ℕ} → Pass s b at i n → 0 < n → restAfter (openingAt s at) i n ≡ Left j m → Pass s b (at + openingAt s at .words) j m
   again (ended h z e) l a = absurd (omega arith)
-  again {at} {i} {n} {j} {m} (went {j = j′} {m = m′} h z e q p) l a =
+  again {j = j} {m = m} (went {j = j′} {m = m′} h z e q p) l a =
       let x : j′ ≡ j = cc in
       let y : m′ ≡ m = cc in
       rw (q, x, y) at p
@@ -76,7 +76,7 @@ module _ {s : List ℕ} {at to : ℕ} where
   opens : (k a : ℕ) {ws : List ℕ} → Held s (head k a ∷ ws) at to → a ≤ mostByte
       → openingAt s at ≡ opening (getD kinds k noRow .parts) a (getD s (at + 1) 0)
   unfolding openingAt piecesAt formAt
-  opens k a {ws} h l =
+  opens k a h l =
       let e : getD s at 0 % 256 ≡ a = omega (arith, first-word h) in
       let f : formAt s at ≡ getD kinds k noRow .parts = ap (λ (r : Row). r .parts) (sym (of-kind (getD s at 0) k a (first-word h) l refl)) in
       rw (e, f)
