@@ -35,7 +35,8 @@ record Looked (w : ℕ) (t : Term) : Type 0 where
   opens : Opens row ≡ headOf atTerm w
   view : Opened (row .parts) t
 
-abbrev rowFor : ℕ → Row
+-- the row of the kind k
+abbrev pub rowFor : ℕ → Row
 rowFor k = getD kinds k noRow
 
 -- a head word of the kind k and the low byte n opens the row of its kind, if that stands at a term and n is within its range

@@ -11,7 +11,7 @@ use lib.ListN.{length, getD}
 use borrow.Author.Needs.{needs}
 use borrow.Author.Tests.{lt-ltb}
 use Rattle.language.specs.Term.{rules, Term, Terms, Arms, size, sizeᵃ}
-use Rattle.language.specs.Kinds.{mostByte, noRow, kinds}
+use Rattle.language.specs.Kinds.{mostByte}
 use Rattle.language.specs.Words.{head, words, wordsᵗ, wordsᵃ}
 use Rattle.language.specs.Limits.{Ranged, Rangedᵗ, Rangedᵃ, r-var, r-kvar, r-fun, r-call, r-bind, r-con, r-cases, r-nil, r-cons, r-none, r-arm}
 use Rattle.language.specs.Run.{atom, atoms}
@@ -27,6 +27,7 @@ use Rattle.atoms.specs.Openings.{headWords, piecesOf, piecesAt, formAt, 
 use Rattle.atoms.specs.declared.Opening.{Opening}
 use Rattle.atoms.specs.declared.Rest.{Rest}
 use Rattle.atoms.specs.declared.Rest.the-variants.{Left, NoAtom}
+use Rattle.atoms.proofs.Opened.{rowFor}
 use Rattle.atoms.proofs.Standing.{term-least}
 
 -- From `at` on, with i pieces to be passed over and then n terms to be tested, which all stand in s, the pass answers b.
@@ -74,11 +75,11 @@ opening P n m = record { parts = P; words = headWords P; pieces = piecesOf P n m
 -- what a head of the kind k and the low byte a opens, where it stands
 module _ {s : List ℕ} {at to : ℕ} where
   opens : (k a : ℕ) {ws : List ℕ} → Held s (head k a ∷ ws) at to → a ≤ mostByte
-      → openingAt s at ≡ opening (getD kinds k noRow .parts) a (getD s (at + 1) 0)
+      → openingAt s at ≡ opening (rowFor k .parts) a (getD s (at + 1) 0)
   unfolding openingAt piecesAt formAt
   opens k a h l =
       let e : getD s at 0 % 256 ≡ a = omega (arith, first-word h) in
-      let f : formAt s at ≡ getD kinds k noRow .parts = ap (λ (r : Row). r .parts) (sym (of-kind (getD s at 0) k a (first-word h) l refl)) in
+      let f : formAt s at ≡ rowFor k .parts = ap (λ (r : Row). r .parts) (sym (of-kind (getD s at 0) k a (first-word h) l refl)) in
       rw (e, f)
 
   opens-fun : (o a : ℕ) {ws : List ℕ} → o ≤ 1 → Held s (head (2 + o) a ∷ ws) at to → a ≤ mostByte
@@ -90,17 +91,17 @@ module _ {s : List ℕ} {at to : ℕ} where
 -- the steps of a pass, where it is known what the head opens
 module _ {s : List ℕ} {at : ℕ} (o : Opening) (e : openingAt s at ≡ o) where
   over : {b : Bool} {to i j n : ℕ} → to ≡ at + o .words → 0 < n → at < to → 0 < i → j ≡ i - 1 + o .pieces → Pass s b to j n → Pass s b at i n
-  unfolding restAfter tested
+  unfolding restAfter
   over {to} {i} {j} {n} q z l c d p =
       went {at = at} {i = i} {n = n} {j = j} {m = n} {to = to} (omega (arith, fits p)) z (simp (e, lt-ltb 0 i c, d)) (rw e q) p
 
   on : {b : Bool} {to j n m : ℕ} → to ≡ at + o .words → tested (o .parts) (o .pieces) n ≡ Left j m → 0 < n → at + n ≤ length s → Pass s b to j m
       → Pass s b at 0 n
-  unfolding restAfter tested
+  unfolding restAfter
   on {to} {j} {n} {m} q c z l p = went {at = at} {i = 0} {n = n} {j = j} {m = m} {to = to} (omega arith) z (simp (e, c)) (rw e q) p
 
   off : {n : ℕ} → o .words ≡ 1 → tested (o .parts) (o .pieces) n ≡ NoAtom → 0 < n → at + n ≤ length s → Pass s false at 0 n
-  unfolding restAfter tested
+  unfolding restAfter
   off {n} w c z l = stopped {at = at} {i = 0} {n = n} (omega arith) z (simp (e, c)) (simp e (omega arith)) refl
 
 -- What stands in a function's body is passed over: a term is one piece, a list and arms are as many as they have.
@@ -154,19 +155,19 @@ module _ {s : List ℕ} where
 
     test : {b : Bool} {t : Term} {at to n m : ℕ} → Ranged rules t → Held s (words rules t) at to → m ≡ n + 1 → Pass s b to 0 n
         → Pass s (atom t && b) at 0 m
-    test {b} (r-var {i = v} h) k e p = on _ (opens 1 v k h) (k .past) (ap₂ Left (omega arith) (omega arith)) (omega arith) (omega (arith, fits p, k .past)) p
+    test (r-var {i = v} h) k e p = on _ (opens 1 v k h) (k .past) (ap₂ Left (omega arith) (omega arith)) (omega arith) (omega (arith, fits p, k .past)) p
     test (r-kvar a h) k e p = absurd a
-    test {n} (r-fun {o} {a} {b = c} l h x r) k e p =
+    test {n} (r-fun {o} {a} l h x r) k e p =
         on _ (opens-fun o (a + 0) l k (omega arith)) refl (ap₂ Left (omega arith) (omega arith)) (omega arith) (omega (arith, fits p, k .past))
         (body n r (next-words k) p)
-    test (r-call {f} {ps} l h r rs) k e p = off _ (opens 4 (size ps) k (omega arith)) refl refl (omega arith) (omega (arith, fits p, k .past))
-    test (r-bind {m} {b = c} r r′) k e p = off _ (opens 5 0 k (omega arith)) refl refl (omega arith) (omega (arith, fits p, k .past))
-    test {n} {m} (r-con {t} {ps} h l rs) k e p =
+    test (r-call {ps = ps} l h r rs) k e p = off _ (opens 4 (size ps) k (omega arith)) refl refl (omega arith) (omega (arith, fits p, k .past))
+    test (r-bind r r′) k e p = off _ (opens 5 0 k (omega arith)) refl refl (omega arith) (omega (arith, fits p, k .past))
+    test {n} (r-con {t} {ps} h l rs) k e p =
         let k′ = next-words k in
         let c = first-word k′ in
         on _ (opens 6 t k h) {m = n + size ps} (omega arith) (ap₂ Left (omega arith) (omega arith)) (omega arith) (omega (arith, fits p, k .past))
         (testᵗ rs (next-words k′) refl p)
-    test (r-cases {m} {ps} l h r rs) k e p = off _ (opens 7 (sizeᵃ ps) k (omega arith)) refl refl (omega arith) (omega (arith, fits p, k .past))
+    test (r-cases {ps = ps} l h r rs) k e p = off _ (opens 7 (sizeᵃ ps) k (omega arith)) refl refl (omega arith) (omega (arith, fits p, k .past))
 
     testᵗ : {b : Bool} {ts : Terms} {at to n m : ℕ} → Rangedᵗ rules ts → Held s (wordsᵗ rules ts) at to → m ≡ n + size ts → Pass s b to 0 n
         → Pass s (atoms ts && b) at 0 m
@@ -191,6 +192,7 @@ module _ {d : ℕ} {s : List ℕ} {at : ℕ} (k : Stands (term d) s at) where
       subst (λ (b : Bool). Pass s b at 0 1) (and-true (atom t)) (test (x .good .0) (x .held) refl (ended {at = e} {i = 0} {n = 0} (omega arith) refl refl))
 
   module _ {to i n : ℕ} (g : Going d s at to i n) where
+    -- where a term is left, n being above some number, the words of the next head are there
     pub head-there : {m : ℕ} → m < n → Whole (formAt s to) s to
     unfolding openingAt
     head-there z = record { inside = whole-head (g .each (k .thing) (k .to) (k .seen)) (omega arith) }
