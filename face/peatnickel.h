@@ -2,9 +2,9 @@
  * Peatnickel: the controller's face.
  *
  * Translates rules, stored as 16-bit words, into their images in continuation-passing form, and packs and unpacks the two
- * file forms. The functions are proved against definitions that anyone can compare with the paper (crates/face/specs and
- * what it cites); the numbers below are those of crates/face/specs/Numbers.antt, and the replies those of `Means` in
- * crates/face/specs/Calls.antt.
+ * file forms. The functions are proved against definitions that anyone can compare with the paper (crates/peatnickel/specs and
+ * what it cites); the numbers below are those of crates/peatnickel/specs/Numbers.antt, and the replies those of `Means` in
+ * crates/peatnickel/specs/Calls.antt.
  *
  * What every call has in common:
  *

@@ -6,9 +6,9 @@ use mathlib.Core.List.{List}
 use Rattle.language.specs.declared.Answer.{Answer}
 use Rattle.rules.specs.Contracts.{Call, Allows}
 use Rattle.files.specs.declared.Form.{Form}
-use Rattle.face.specs.Numbers.{answerOf, checkedOf, formOf, noForm}
-use Rattle.face.specs.declared.Told.{Told}
-use Rattle.face.specs.declared.Told.the-variants.{Is, NoForm}
+use Rattle.peatnickel.specs.Numbers.{answerOf, checkedOf, formOf, noForm}
+use Rattle.peatnickel.specs.declared.Told.{Told}
+use Rattle.peatnickel.specs.declared.Told.the-variants.{Is, NoForm}
 
 -- a call, with the words or bytes and the output that were lent, as they were at its start; a file's form is told by a number
 pub data Asked : Type 0 where

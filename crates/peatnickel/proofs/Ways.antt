@@ -19,12 +19,12 @@ use Rattle.reading.specs.declared.Checked.{Checked}
 use Rattle.reading.specs.declared.Checked.the-variants as checking
 use Rattle.files.specs.declared.Form.{Form}
 use Rattle.files.specs.declared.Form.the-variants.{Rules, Images}
-use Rattle.face.specs.Numbers.{refusals, numberIn, placeIn, answerOf, checkedOf, formOf, noForm, refusalNumber, Small}
-use Rattle.face.specs.Calls.{Formed, formed, formless}
-use Rattle.face.specs.declared.Told.{Told}
-use Rattle.face.specs.declared.Told.the-variants.{Is, NoForm}
-use Rattle.face.proofs.Replies as replies
-use Rattle.face.proofs.Replies.{Listed, Fair, succeeds, refused-as, fair-listed, Counted, checked-fair, measured-fair, written-counted, packing-counted, unpacking-counted, number-small}
+use Rattle.peatnickel.specs.Numbers.{refusals, numberIn, placeIn, answerOf, checkedOf, formOf, noForm, refusalNumber, Small}
+use Rattle.peatnickel.specs.Calls.{Formed, formed, formless}
+use Rattle.peatnickel.specs.declared.Told.{Told}
+use Rattle.peatnickel.specs.declared.Told.the-variants.{Is, NoForm}
+use Rattle.peatnickel.proofs.Replies as replies
+use Rattle.peatnickel.proofs.Replies.{Listed, Fair, succeeds, refused-as, fair-listed, Counted, checked-fair, measured-fair, written-counted, packing-counted, unpacking-counted, number-small}
 
 -- the forms' numbers
 pub f-rules : {n : ℕ} → n ≡ 0 → Is Rules ≡ formOf n

@@ -1,7 +1,7 @@
--- `face::form_of` meets its contract: 0 and 1 are forms' numbers, and no other. Assumes nothing.
-use Rattle.face.proofs.Ways.{ways}
-use Rattle.face.proofs.form_of.Statement.{statement}
-use Rattle.face.proofs.form_of.Tie as tie
+-- `peatnickel::form_of` meets its contract: 0 and 1 are forms' numbers, and no other. Assumes nothing.
+use Rattle.peatnickel.proofs.Ways.{ways}
+use Rattle.peatnickel.proofs.form_of.Statement.{statement}
+use Rattle.peatnickel.proofs.form_of.Tie as tie
 
 returns : tie.Need-returns
 returns c = search ways

@@ -1,8 +1,8 @@
--- `face::number` meets its contract: a count that is small is its own number, and a refusal's is above all of them. Assumes nothing.
+-- `peatnickel::number` meets its contract: a count that is small is its own number, and a refusal's is above all of them. Assumes nothing.
 use borrow.Author.Needs.{needs}
-use Rattle.face.proofs.Ways.{ways}
-use Rattle.face.proofs.number.Statement.{statement}
-use Rattle.face.proofs.number.Tie as tie
+use Rattle.peatnickel.proofs.Ways.{ways}
+use Rattle.peatnickel.proofs.number.Statement.{statement}
+use Rattle.peatnickel.proofs.number.Tie as tie
 
 enum-known-a : tie.Need-enum-known-a
 enum-known-a c = search needs

@@ -1,8 +1,8 @@
--- `face::peatnickel_measure` meets its contract: the number means what `rules::measure` answered, which is small. Assumes nothing.
+-- `peatnickel::peatnickel_measure` meets its contract: the number means what `rules::measure` answered, which is small. Assumes nothing.
 use borrow.Author.Needs.{needs}
-use Rattle.face.proofs.Ways.{ways}
-use Rattle.face.proofs.peatnickel_measure.Statement.{statement}
-use Rattle.face.proofs.peatnickel_measure.Tie as tie
+use Rattle.peatnickel.proofs.Ways.{ways}
+use Rattle.peatnickel.proofs.peatnickel_measure.Statement.{statement}
+use Rattle.peatnickel.proofs.peatnickel_measure.Tie as tie
 
 measure-requires : tie.Need-measure-requires
 measure-requires c κs = search needs

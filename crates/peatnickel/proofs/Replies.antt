@@ -25,8 +25,8 @@ use Rattle.files.specs.Files.{most, version, headerBytes, wordAt, packed, words
 use Rattle.files.specs.declared.Form.{Form}
 use Rattle.files.specs.declared.Form.the-variants.{Rules, Images}
 use Rattle.files.proofs.Calls.{packed-length, wordsAt-length}
-use Rattle.face.specs.Numbers.{refusals}
-use Rattle.face.specs.Promises.{lastRefusal, Number, base, of-word}
+use Rattle.peatnickel.specs.Numbers.{refusals}
+use Rattle.peatnickel.specs.Promises.{lastRefusal, Number, base, of-word}
 
 -- a refusal's number but 0, and a place that a rule can have
 pub record Listed (e p : ℕ) : Type 0 where

@@ -11,8 +11,8 @@ use Rattle.language.specs.declared.Answer.the-variants.{Count, Refusal}
 use Rattle.reading.specs.declared.Checked.{Checked}
 use Rattle.reading.specs.declared.Checked.the-variants as checking
 use Rattle.files.specs.declared.Form.the-variants.{Rules, Images}
-use Rattle.face.specs.declared.Told.{Told}
-use Rattle.face.specs.declared.Told.the-variants.{Is, NoForm}
+use Rattle.peatnickel.specs.declared.Told.{Told}
+use Rattle.peatnickel.specs.declared.Told.the-variants.{Is, NoForm}
 
 -- where the refusals start
 abbrev pub refusals : ℕ

@@ -18,12 +18,12 @@ use Rattle.reading.specs.declared.Checked.the-variants as checking
 use Rattle.files.specs.declared.Form.{Form}
 use Rattle.rules.specs.Contracts.{Call}
 use Rattle.rules.proofs.Promises.{determined}
-use Rattle.face.specs.Numbers.{refusals, numberIn, placeIn, answerOf, checkedOf, refusalNumber}
-use Rattle.face.specs.Calls.{check, measure, write, pack, unpack, Formed, formed, formless}
-use Rattle.face.specs.Promises.{NumberDetermined, base, Returnable, counts, refuses, NumbersRange}
-use Rattle.face.specs.declared.Told.{Told}
-use Rattle.face.proofs.Replies as replies
-use Rattle.face.proofs.Replies.{Fair, Any, succeeds, refused-as, fair-listed, Counted, checked-fair, measured-fair, written-counted, packing-counted, unpacking-counted}
+use Rattle.peatnickel.specs.Numbers.{refusals, numberIn, placeIn, answerOf, checkedOf, refusalNumber}
+use Rattle.peatnickel.specs.Calls.{check, measure, write, pack, unpack, Formed, formed, formless}
+use Rattle.peatnickel.specs.Promises.{NumberDetermined, base, Returnable, counts, refuses, NumbersRange}
+use Rattle.peatnickel.specs.declared.Told.{Told}
+use Rattle.peatnickel.proofs.Replies as replies
+use Rattle.peatnickel.proofs.Replies.{Fair, Any, succeeds, refused-as, fair-listed, Counted, checked-fair, measured-fair, written-counted, packing-counted, unpacking-counted}
 
 -- the number of an answer, and of a check's
 number : Answer → ℕ

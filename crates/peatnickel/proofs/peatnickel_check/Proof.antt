@@ -1,8 +1,8 @@
--- `face::peatnickel_check` meets its contract: the number means what `rules::check` answered. Assumes nothing.
+-- `peatnickel::peatnickel_check` meets its contract: the number means what `rules::check` answered. Assumes nothing.
 use borrow.Author.Needs.{needs}
-use Rattle.face.proofs.Ways.{ways}
-use Rattle.face.proofs.peatnickel_check.Statement.{statement}
-use Rattle.face.proofs.peatnickel_check.Tie as tie
+use Rattle.peatnickel.proofs.Ways.{ways}
+use Rattle.peatnickel.proofs.peatnickel_check.Statement.{statement}
+use Rattle.peatnickel.proofs.peatnickel_check.Tie as tie
 
 check-requires : tie.Need-check-requires
 check-requires c κs = search needs

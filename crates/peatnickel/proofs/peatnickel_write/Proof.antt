@@ -1,8 +1,8 @@
--- `face::peatnickel_write` meets its contract: the number means what `rules::write` answered, which is small. Assumes nothing.
+-- `peatnickel::peatnickel_write` meets its contract: the number means what `rules::write` answered, which is small. Assumes nothing.
 use borrow.Author.Needs.{needs}
-use Rattle.face.proofs.Ways.{ways}
-use Rattle.face.proofs.peatnickel_write.Statement.{statement}
-use Rattle.face.proofs.peatnickel_write.Tie as tie
+use Rattle.peatnickel.proofs.Ways.{ways}
+use Rattle.peatnickel.proofs.peatnickel_write.Statement.{statement}
+use Rattle.peatnickel.proofs.peatnickel_write.Tie as tie
 
 write-requires : tie.Need-write-requires
 write-requires c κs = search needs

@@ -3,8 +3,8 @@ use Prim.Native.Nat.{ℕ, _<_, _≤_}
 use mathlib.Core.Path.{_≡_}
 use Rattle.language.specs.Limits.{mostWords}
 use Rattle.trust.specs.Promises.{OfWord}
-use Rattle.face.specs.Numbers.{refusals, refusalNumber}
-use Rattle.face.specs.Calls.{Asked, Returned, check, measure, write, pack, unpack, Means}
+use Rattle.peatnickel.specs.Numbers.{refusals, refusalNumber}
+use Rattle.peatnickel.specs.Calls.{Asked, Returned, check, measure, write, pack, unpack, Means}
 
 -- "prove that two outcomes allowed by it are equal": of every call the number too
 abbrev pub NumberDetermined : Type 0
