@@ -2,7 +2,7 @@
 -- the public calls determine their answers.
 -- Assumes nothing.
 use Prim.Native.Nat.{ℕ, _+_, _*_, _<_, _≤_}
-use mathlib.Core.Path.{_≡_, refl, ap}
+use mathlib.Core.Path.{_≡_, refl, sym, ap, _∙_}
 use mathlib.Core.Bool.{Bool, true, false, cond}
 use mathlib.Core.List.{List}
 use native.Mathlib.Omega.{arith}
@@ -18,7 +18,7 @@ use Rattle.language.specs.Read.{noPlace, Got, found, fault, then, term, Reading
 use Rattle.language.specs.Calls.{Reply, success, replyOf, checked, measured}
 use Rattle.sizes.specs.Lengths.{passingLength, imageLength}
 use Rattle.sizes.proofs.Lengths.{of-image}
-use Rattle.reading.specs.Steps.{imageWords, stepOf, termStep, wordsOf}
+use Rattle.reading.specs.Steps.{imageWords, stepOf, termStep, wordsOf, standsAt, endedAt}
 use Rattle.reading.specs.Answers.{checkedReply}
 use Rattle.reading.specs.declared.Step.{Step}
 use Rattle.reading.specs.declared.Step.the-variants.{Next, No}
@@ -55,36 +55,84 @@ closed-small s at h = go (eqb (length s) 0) (ltb mostWords (length s)) (ltb-fals
     go false true few h = omega (arith, ap wordsOf h)
     go false false few h = omega (arith, term-small s deepest 0 at h, few refl)
 
--- a rule is such a term with no words left over
-stopped : (g : Got Term) (f : Term → ℕ → Got Term) {y : Step} {e p : ℕ} → y ≡ termStep g → y ≡ No e p
-    → replyOf (answer.Refusal e p) ≡ measured (reading (then g f))
-unfolding stepOf then replyOf measured
-stopped (found t to) f h k = never cc
-stopped (fault n at) f h k = cc
+-- where reading stands after a step
+pub s-refused : {x : Step} {e p : ℕ} → x ≡ No e p → p ≡ standsAt x
+unfolding standsAt
+s-refused k = sym (ap standsAt k)
 
-went : (g : Got Term) (f : Term → ℕ → Got Term) {y : Step} {x : Reply ℕ} {to z : ℕ} {b : Bool} → y ≡ termStep g → y ≡ Next to b z
-    → ((t : Term) → passingLength t ≡ z → x ≡ measured (reading (f t to))) → x ≡ measured (reading (then g f))
-unfolding stepOf then
-went (found t at) f {to = to} h k next = let e : at ≡ to = cc in rw e (next t cc)
-went (fault n at) f h k next = never cc
+pub s-behind : {x : Step} {to z : ℕ} {b : Bool} → x ≡ Next to b z → to ≡ standsAt x
+unfolding standsAt
+s-behind k = sym (ap standsAt k)
 
-module _ (s : List ℕ) {y : Step} (h : y ≡ termStep (closed s 0)) where
+-- the test after the last word, at a place of a table of n words
+module _ (n at : ℕ) {x : Step} where
+  pub e-refused : {e p : ℕ} → x ≡ No e p → No e p ≡ endedAt n at x
+  unfolding endedAt
+  e-refused k = rw k
+
+  module _ {to z : ℕ} {b : Bool} (k : x ≡ Next to b z) where
+    pub e-left : at < n → No 8 at ≡ endedAt n at x
+    unfolding endedAt
+    e-left l = simp (k, lt-ltb _ _ l)
+
+    pub e-over : n ≤ at → Next to b z ≡ endedAt n at x
+    unfolding endedAt
+    e-over l = simp (k, le-ltb _ _ l)
+
+-- a rule is a closed term with no words left over: the test is made where reading stands after the term
+pub rule-step : (s : List ℕ) (g : Got Term) → endedAt (length s) (standsAt (termStep g)) (termStep g) ≡ termStep (then g (ended s))
+unfolding stepOf standsAt endedAt then ended
+rule-step s (found t to) = go (ltb to (length s))
+  where
+    go : (b : Bool) → cond b (No 8 to) (termStep (found t to)) ≡ termStep (cond b (fault 8 to) (found t to))
+    go true = refl
+    go false = refl
+rule-step s (fault e p) = refl
+
+-- the test adds no words
+ended-words : (n at : ℕ) (x : Step) → wordsOf (endedAt n at x) ≤ wordsOf x
+unfolding endedAt wordsOf
+ended-words n at (Next to b z) = go (ltb at n)
+  where
+    go : (c : Bool) → wordsOf (cond c (No 8 at) (Next to b z)) ≤ z
+    go true = omega arith
+    go false = omega arith
+ended-words n at (No e p) = omega arith
+
+-- what the measuring call makes of what was read
+measured-stop : (g : Got Term) {y : Step} {e p : ℕ} → y ≡ termStep g → y ≡ No e p → replyOf (answer.Refusal e p) ≡ measured (reading g)
+unfolding stepOf replyOf measured
+measured-stop (found t to) h k = never cc
+measured-stop (fault n at) h k = cc
+
+measured-words : (g : Got Term) {y : Step} {to c : ℕ} {b : Bool} → y ≡ termStep g → y ≡ Next to b c
+    → replyOf (answer.Count (c + imageWords)) ≡ measured (reading g)
+unfolding stepOf replyOf measured imageLength
+measured-words (found t to) {c = c} h k = let e : passingLength t ≡ c = cc in ap success (omega (arith, of-image t))
+measured-words (fault n at) h k = never cc
+
+module _ (s : List ℕ) {y : Step} (h : y ≡ termStep (then (closed s 0) (ended s))) where
   pub m-stop : {e p : ℕ} → y ≡ No e p → replyOf (answer.Refusal e p) ≡ measured (read s)
   unfolding read
-  m-stop k = stopped _ _ h k
+  m-stop k = measured-stop _ h k
 
-  pub m-left : {to c : ℕ} {b : Bool} → y ≡ Next to b c → to < length s → replyOf (answer.Refusal 8 to) ≡ measured (read s)
-  unfolding read replyOf measured ended
-  m-left k l = went _ _ h k (λ t q. simp (lt-ltb _ _ l))
-
-  pub m-words : {to c : ℕ} {b : Bool} → y ≡ Next to b c → length s ≤ to → replyOf (answer.Count (c + imageWords)) ≡ measured (read s)
-  unfolding read replyOf measured ended imageLength
-  m-words k l = went _ _ h k (λ t q. simp (le-ltb _ _ l) (ap success (omega (arith, of-image t))))
+  pub m-words : {to c : ℕ} {b : Bool} → y ≡ Next to b c → replyOf (answer.Count (c + imageWords)) ≡ measured (read s)
+  unfolding read
+  m-words k = measured-words _ h k
 
   -- the words of the image do not wrap
   pub m-fits : {to c : ℕ} {b : Bool} → y ≡ Next to b c → Fits w64 (c + imageWords)
   unfolding wordsOf
-  m-fits k = record { fits = omega (arith, closed-small s 0 h, ap wordsOf k) }
+  m-fits k =
+      let x = termStep (closed s 0) in
+      record {
+        fits = omega (
+          arith,
+          closed-small s 0 {y = x} refl,
+          ended-words (length s) (standsAt x) x,
+          ap wordsOf (sym k ∙ h ∙ sym (rule-step s (closed s 0))),
+        );
+      }
 
 -- what the checking call makes of the measuring call's answer
 pub c-refused : (r : Reading) {a : Answer} {e p : ℕ} → replyOf a ≡ measured r → a ≡ answer.Refusal e p → checkedReply (check.Refusal e p) ≡ checked r
@@ -112,4 +160,19 @@ same-answer (answer.Count m) (answer.Refusal f q) e = never cc
 same-answer (answer.Refusal d p) (answer.Count n) e = never cc
 same-answer (answer.Refusal d p) (answer.Refusal f q) e = cc
 
-pub ruleset answers = (k-none, k-many, k-term, m-stop, m-left, m-words, m-fits, c-refused, c-accepted, needs)
+pub ruleset answers = (
+  k-none,
+  k-many,
+  k-term,
+  s-refused,
+  s-behind,
+  e-refused,
+  e-left,
+  e-over,
+  m-stop,
+  m-words,
+  m-fits,
+  c-refused,
+  c-accepted,
+  needs,
+)

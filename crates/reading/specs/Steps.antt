@@ -3,6 +3,7 @@
 use Prim.Native.Nat.{ℕ, _+_, _-_, _*_, _≤_}
 use mathlib.Core.Path.{_≡_}
 use mathlib.Core.Bool.{Bool, false, cond}
+use lib.Dec.{ltb}
 use Rattle.language.specs.Term.{Term, Terms, Arms, size}
 use Rattle.language.specs.Run.{atom, atoms}
 use Rattle.language.specs.Kinds.{mostArms}
@@ -95,3 +96,13 @@ builtOf m (No e p) = No e p
 unfoldable pub Roomy : ℕ → Step → Type 0
 Roomy m (Next to b z) = savedWords * m ≤ z
 Roomy m (No e p) = Unit {0}
+
+-- where reading stands after a step: at the word behind what was read, or at the place of the refusal
+unfoldable pub standsAt : Step → ℕ
+standsAt (Next to b z) = to
+standsAt (No e p) = p
+
+-- "After the rule's last word: 8.", at a place of a table of n words, after a step
+unfoldable pub endedAt : ℕ → ℕ → Step → Step
+endedAt n at (Next to b z) = cond (ltb at n) (No 8 at) (Next to b z)
+endedAt n at (No e p) = No e p

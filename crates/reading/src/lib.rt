@@ -10,9 +10,9 @@ ghost use Prim.Native.Nat.{_+_, _*_, _≤_, _<_};
 ghost use mathlib.Core.List.{[]};
 ghost use lib.ListN.{length};
 ghost use Rattle.language.specs.Kinds.{mostArms, mostByte};
-ghost use Rattle.language.specs.Read.{many, armsOf, opened, term, closed, read};
+ghost use Rattle.language.specs.Read.{then, many, armsOf, opened, term, closed, ended, read};
 ghost use Rattle.language.specs.Calls.{replyOf, checked, measured};
-ghost use Rattle.reading.specs.Steps.{aWord, small, termStep, termsStep, armsStep, FewArms, wordsOf, grownOf, builtOf, Roomy};
+ghost use Rattle.reading.specs.Steps.{aWord, small, termStep, termsStep, armsStep, FewArms, wordsOf, grownOf, builtOf, Roomy, standsAt, endedAt};
 ghost use Rattle.reading.specs.Answers.{checkedReply};
 
 // The words of a variable's passing form, and those that each other form has besides its parts' passing forms and chains.
@@ -202,6 +202,32 @@ fn closed_at(s: &[u16], at: usize) -> Step
     term_at(s, at, language::DEEPEST, 0)
 }
 
+// Where reading stands after a step: at the word behind what was read, or at the place of the refusal.
+fn stands(step: Step) -> usize
+    ensures { λ r. ⌜ r ≡ standsAt step ⌝ }
+{
+    match step {
+        Step::No(_, p) => p,
+        Step::Next(to, _, _) => to,
+    }
+}
+
+// The test after the last word, at a place of a table, of what was read before that place.
+fn ended_at(s: &[u16], at: usize, step: Step) -> Step
+    ensures { λ r. ⌜ r ≡ endedAt (length (now (s .entry))) at step ⌝ }
+{
+    match step {
+        Step::No(e, p) => Step::No(e, p),
+        Step::Next(to, all, z) => {
+            if at < s.len() {
+                Step::No(language::LEFT_OVER, at)
+            } else {
+                Step::Next(to, all, z)
+            }
+        }
+    }
+}
+
 // A reading place: the lent table, and the place of its next word.
 struct Reader<'a> {
     table: &'a [u16],
@@ -222,26 +248,39 @@ fn closed_here<'a>(r: Reader<'a>) -> Step
     closed_at(r.table, r.next)
 }
 
-// The closed term that a table starts with.
-fn closed_first(s: &[u16]) -> Step
-    ensures { λ x. ⌜ x ≡ termStep (closed (now (s .entry)) 0) ⌝ }
+// The reading place moved to another word.
+fn moved<'a>(r: Reader<'a>, to: usize) -> Reader<'a>
+    ensures { λ x. ⌜ (x .table ≡ r .entry .table) × (x .next ≡ to) ⌝ }
 {
-    closed_here(start(s))
+    Reader {
+        table: r.table,
+        next: to,
+    }
+}
+
+// The test after the last word, at the reading place, of what was read before it.
+fn ended_here<'a>(r: Reader<'a>, step: Step) -> Step
+    ensures { λ x. ⌜ x ≡ endedAt (length (now (r .entry .table))) (r .entry .next) step ⌝ }
+{
+    ended_at(r.table, r.next, step)
+}
+
+// The rule that a table holds: from its first word on a closed term, and behind that, where the reading place then stands, no word.
+fn rule_of(s: &[u16]) -> Step
+    ensures { λ x. ⌜ x ≡ termStep (then (closed (now (s .entry)) 0) (ended (now (s .entry)))) ⌝ }
+{
+    let first = start(s);
+    let step = closed_here(first);
+    ended_here(moved(first, stands(step)), step)
 }
 
 // How many words the image of a rule has.
 pub fn measure(s: &[u16]) -> Answer
     ensures { λ r. ⌜ replyOf r ≡ measured (read (now (s .entry))) ⌝ }
 {
-    match closed_first(s) {
+    match rule_of(s) {
         Step::No(e, p) => Answer::Refusal(e, p),
-        Step::Next(to, _, z) => {
-            if to < s.len() {
-                Answer::Refusal(language::LEFT_OVER, to)
-            } else {
-                Answer::Count(z + IMAGE_WORDS)
-            }
-        }
+        Step::Next(_, _, z) => Answer::Count(z + IMAGE_WORDS),
     }
 }
 
