@@ -47,7 +47,7 @@ unfolding size carrieds
 size-carrieds nil = refl
 size-carrieds (cons t ts) = ap suc (size-carrieds ts)
 
--- "0900+(n−1) … 0900" are n
+-- "k_(n-1) down to k_0" are n
 pub size-downto : (n : ℕ) → size (downto n) ≡ n
 unfolding downto size
 size-downto zero = refl

@@ -58,13 +58,17 @@ many p (suc k) at = then (p at) (λ t to. made (cons t) (many p k to))
 unfoldable pub unlike : List ℕ → List (ℕ × ℕ) → ℕ → ℕ → Got ℕ
 unlike s before t at = then (second s at) (λ m to. cond (dead t m before) (fault 18 at) (found m to))
 
--- k arms one after the other, behind those that have the tags and arities `before`, under n source variables; p reads a body under so many. "At an
--- arm's head: 3, 4, 5."
+-- the rest of an arm with the tag t, from its second word on: its arity, and its body under as many source variables more; and q reads the arms behind
+-- it, told the tags and arities up to there. p reads a body under so many source variables
+abbrev pub armOf : List ℕ → (ℕ → ℕ → Got Term) → (List (ℕ × ℕ) → ℕ → Got Arms) → List (ℕ × ℕ) → ℕ → ℕ → ℕ → Got Arms
+armOf s p q before n t at =
+    then (unlike s before t at) (λ m to. then (p (n + m) to) (λ b past. made (arm t m b) (q (before ++ ((t, m) ∷ [])) past)))
+
+-- k arms one after the other, behind those that have the tags and arities `before`, under n source variables. "At an arm's head: 3, 4, 5."
 unfoldable pub armsOf : List ℕ → (ℕ → ℕ → Got Term) → List (ℕ × ℕ) → ℕ → ℕ → ℕ → Got Arms
 armsOf s p before n zero at = found none at
 armsOf s p before n (suc k) at =
-    word s at (λ w. headed (headOf atArm w) at (λ r. then (unlike s before (w % 256) (at + 1)) (λ m to. then (p (n + m) to) (λ b past. made
-    (arm (w % 256) m b) (armsOf s p (before ++ ((w % 256, m) ∷ [])) n k past)))))
+    word s at (λ w. headed (headOf atArm w) at (λ r. armOf s p (λ all. armsOf s p all n k) before n (w % 256) (at + 1)))
 
 -- the term whose head, at a place, has the low byte a and these parts, and whose body has o source variables besides its arguments; it
 -- stands under n source variables, and p reads a part under so many. 7: "variable index not below the number of source variables bound there".

@@ -1,5 +1,5 @@
 -- `reading::start` meets its contract: a walk of its MIR, by hand. A `Reader` is made of the slice passed and 0, in the result's local.
--- A `&[u16]` is Copy, so what it owns is had twice: once for table at exit, and once inside the result, beside the facts of at.
+-- A `&[u16]` is Copy, so what it owns is had twice: once for table at exit, and once inside the result, beside the facts of next.
 -- Assumes nothing.
 use mathlib.Core.Path.{refl}
 use Prim.Native.Nat.{ℕ}
