@@ -18,8 +18,8 @@
 #include <string.h>
 #include <ucontext.h>
 
-#include "../peer/corpus.h"
-#include "../peer/image.h"
+#include "../peer/generators/corpus.h"
+#include "../peer/translator/image.h"
 #include "peatnickel.h"
 #include "shapes.h"
 

@@ -10,9 +10,9 @@
 #include <stdlib.h>
 #include <string.h>
 
-#include "../peer/cases.h"
-#include "../peer/gen_record.h"
-#include "../peer/image.h"
+#include "../peer/generators/cases.h"
+#include "../peer/generators/gen_record.h"
+#include "../peer/translator/image.h"
 #include "peatnickel.h"
 
 enum {

@@ -1,8 +1,8 @@
 #include "shapes.h"
 
-#include "../peer/gen_record.h"
-#include "../peer/rule.h"
-#include "../peer/term.h"
+#include "../peer/generators/gen_record.h"
+#include "../peer/translator/rule.h"
+#include "../peer/translator/term.h"
 
 enum { LEAF = 2, PARTS = 8, LET_LEAST = 5, TOWER_MOST = 32, CALL_WORDS = 5, LEVELS = RULE_DEPTH_MOST - 2, VALUE_LEVELS = 5 };
 

@@ -4,7 +4,7 @@
 
 #include <stddef.h>
 
-#include "../peer/words.h"
+#include "../peer/translator/words.h"
 
 struct shape {
     const char *name;

@@ -1,17 +1,18 @@
+/* The program: its first argument says what it does, none means the bench. */
 #include <stdbool.h>
 #include <stdio.h>
 #include <stdlib.h>
 #include <string.h>
 
-#include "compare.h"
-#include "corpus.h"
-#include "demand3.h"
-#include "file.h"
-#include "fuzz.h"
-#include "gen.h"
-#include "image.h"
-#include "selftest.h"
-#include "words.h"
+#include "generators/fuzz.h"
+#include "generators/gen.h"
+#include "tests/compare.h"
+#include "tests/demand3.h"
+#include "tests/replies.h"
+#include "tests/selftest.h"
+#include "translator/file.h"
+#include "translator/image.h"
+#include "translator/words.h"
 
 /* "If more than 8,199 bytes arrive it prints `no 2`" */
 enum {

@@ -1,9 +1,9 @@
 #include "selftest_arguments.h"
 
+#include "../generators/gen_arguments.h"
+#include "../generators/gen_record.h"
+#include "../translator/image.h"
 #include "demand3.h"
-#include "gen_arguments.h"
-#include "gen_record.h"
-#include "image.h"
 
 /* "Raise the limit from 8 to 15": its number, so that the name is tested. */
 enum { LIMIT = 15 };

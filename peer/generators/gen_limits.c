@@ -1,7 +1,7 @@
 #include "gen_limits.h"
 
+#include "../translator/rule.h"
 #include "gen_record.h"
-#include "rule.h"
 
 /* One level of nesting: words before the part and words after it. */
 struct nest {

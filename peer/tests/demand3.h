@@ -8,10 +8,10 @@
 
 #include <stdio.h>
 
-#include "arena.h"
-#include "rule.h"
-#include "run.h"
-#include "words.h"
+#include "../translator/arena.h"
+#include "../translator/rule.h"
+#include "../translator/run.h"
+#include "../translator/words.h"
 
 struct both_runs {
     struct refusal refusal; /* of the rule; when refused nothing was run */

@@ -6,9 +6,9 @@
 #include <stdint.h>
 #include <stdio.h>
 
+#include "../translator/term.h"
+#include "../translator/words.h"
 #include "corpus.h"
-#include "term.h"
-#include "words.h"
 
 enum { RECORD_WORDS_MOST = 5000, FILLER_WORDS_LEAST = 2 };
 

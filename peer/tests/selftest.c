@@ -4,10 +4,10 @@
 #include <stdlib.h>
 #include <string.h>
 
-#include "cases.h"
+#include "../generators/cases.h"
+#include "../generators/gen_record.h"
+#include "../translator/image.h"
 #include "demand3.h"
-#include "gen_record.h"
-#include "image.h"
 #include "selftest_arguments.h"
 #include "selftest_dead.h"
 #include "selftest_files.h"

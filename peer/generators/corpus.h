@@ -8,7 +8,7 @@
 #include <stdbool.h>
 #include <stdio.h>
 
-#include "words.h"
+#include "../translator/words.h"
 
 struct corpus;
 
@@ -24,8 +24,5 @@ struct word_list record_words(const struct corpus *corpus);
 bool close_corpus(struct corpus *corpus);
 
 void write_record(FILE *out, struct word_list words);
-
-/* One reply for each record; the result is the exit status. */
-int translate_corpus(FILE *in, FILE *out);
 
 #endif

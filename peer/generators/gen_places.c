@@ -1,7 +1,7 @@
 #include "gen_places.h"
 
+#include "../translator/rule.h"
 #include "gen_record.h"
-#include "rule.h"
 
 /* Closed terms of every form, of many lengths: what stands beside a part. */
 #define LEAF 0x0600, 0x0000

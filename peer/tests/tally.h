@@ -7,8 +7,8 @@
 #include <stdint.h>
 #include <stdio.h>
 
-#include "rule.h"
-#include "words.h"
+#include "../translator/rule.h"
+#include "../translator/words.h"
 
 enum { LENT_WORDS = 512, LENT_BYTES = 64 };
 

@@ -150,8 +150,8 @@ static void put_wide_match(struct maker *maker, const struct levels *levels,
     put_two(maker->sink, KIND_CONSTRUCTOR, fitting.tag, fitting.arity);
     put_data(maker, levels, depth + 2, fitting.arity);
     for (size_t i = 0; i < count; i++) {
-        put_arm(maker, &arms,
-                i == place ? fitting : wide_arm(maker, first_tag + i));
+        begin_arm(maker, &arms,
+                  i == place ? fitting : wide_arm(maker, first_tag + i));
         put_data(maker, levels, depth + 1, 1);
         maker->bound = outside;
     }

@@ -105,7 +105,7 @@ static void enter_arm(struct maker *maker, bool fitting, struct arms *arms)
     size_t tag = fitting ? arms->count : below(maker, FITTING_TAGS);
     size_t arity = fitting ? arms->count : below(maker, ARGUMENTS_MOST + 1);
 
-    put_arm(maker, arms, (struct arm){ tag, arity });
+    begin_arm(maker, arms, (struct arm){ tag, arity });
 }
 
 /* Writes what stands before a part and binds what is bound in it. */

@@ -150,7 +150,7 @@ static void put_fitting_match(struct maker *maker, size_t type,
         struct arm arm = taken ? (struct arm){ i - first, i - first }
                                : other_arm(maker, FITTING_TAGS + i);
 
-        put_arm(maker, &arms, arm);
+        begin_arm(maker, &arms, arm);
         put_fitting(maker, type, part_of(spot, count + 1));
         maker->bound = outside;
     }
@@ -183,7 +183,7 @@ static void put_form_match(struct maker *maker, size_t type, struct spot spot)
         size_t arity =
             i == place ? form.arity : other_arity(maker, form.arity);
 
-        put_arm(maker, &arms, (struct arm){ form.tag, arity });
+        begin_arm(maker, &arms, (struct arm){ form.tag, arity });
         put_fitting(maker, type, part);
         maker->bound = outside;
     }

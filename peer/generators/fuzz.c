@@ -2,7 +2,7 @@
 
 #include <string.h>
 
-#include "file.h"
+#include "../translator/file.h"
 #include "fuzz_shapes.h"
 #include "gen_random.h"
 

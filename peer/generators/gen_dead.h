@@ -4,8 +4,8 @@
 
 #include <stdio.h>
 
+#include "../translator/words.h"
 #include "gen_arms.h"
-#include "words.h"
 
 /* A match with two arms. */
 void put_two_arms(struct word_sink *sink, struct arm first,

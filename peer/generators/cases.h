@@ -4,9 +4,9 @@
 
 #include <stddef.h>
 
-#include "file.h"
-#include "rule.h"
-#include "words.h"
+#include "../translator/file.h"
+#include "../translator/rule.h"
+#include "../translator/words.h"
 
 struct accepted_case {
     const char *name;

@@ -5,7 +5,7 @@
 #include <stdlib.h>
 #include <string.h>
 
-#include "corpus.h"
+#include "../generators/corpus.h"
 
 enum { FIRST_ROOM = 1 << 16 };
 

@@ -2,8 +2,8 @@
 
 #include <stdlib.h>
 
-#include "corpus.h"
-#include "image.h"
+#include "../generators/corpus.h"
+#include "../translator/image.h"
 
 enum {
     IMAGE_WORDS_PER_RULE_WORD = 7,
@@ -15,7 +15,7 @@ enum {
     RUN_MEMORY = 1 << 27
 };
 
-struct tally {
+struct figures {
     size_t accepted;
     size_t came_to_value;
     size_t agreed;
@@ -153,7 +153,7 @@ bool image_is_short_enough(struct word_list rule, struct word_list image)
 }
 
 /* False on the first disagreement. */
-static bool try_rule(struct word_list rule, struct tally *tally)
+static bool try_rule(struct word_list rule, struct figures *figures)
 {
     struct arena arena = arena_for_runs();
     struct both_runs runs = run_both(&arena, rule);
@@ -162,11 +162,11 @@ static bool try_rule(struct word_list rule, struct tally *tally)
     if (runs.refusal.number == REFUSED_NOTHING) {
         enum agreement agreement = demand3_agreement(&arena, &runs);
 
-        tally->accepted++;
-        tally->came_to_value += runs.of_rule.outcome == CAME_TO_VALUE;
-        tally->agreed += agreement == AGREED;
-        tally->without_value += agreement == WITHOUT_VALUE;
-        tally->undecided += agreement == UNDECIDED;
+        figures->accepted++;
+        figures->came_to_value += runs.of_rule.outcome == CAME_TO_VALUE;
+        figures->agreed += agreement == AGREED;
+        figures->without_value += agreement == WITHOUT_VALUE;
+        figures->undecided += agreement == UNDECIDED;
         fine = agreement != DISAGREED &&
                image_is_short_enough(rule, runs.image);
     }
@@ -174,28 +174,29 @@ static bool try_rule(struct word_list rule, struct tally *tally)
     return fine;
 }
 
-static void print_tally(FILE *out, size_t records, const struct tally *tally)
+static void print_figures(FILE *out, size_t records,
+                          const struct figures *figures)
 {
     fprintf(out, "records %zu\n", records);
-    fprintf(out, "accepted %zu\n", tally->accepted);
-    fprintf(out, "came to a value %zu\n", tally->came_to_value);
-    fprintf(out, "agreed %zu\n", tally->agreed);
-    fprintf(out, "without a value, image too %zu\n", tally->without_value);
-    fprintf(out, "gave up %zu\n", tally->undecided);
+    fprintf(out, "accepted %zu\n", figures->accepted);
+    fprintf(out, "came to a value %zu\n", figures->came_to_value);
+    fprintf(out, "agreed %zu\n", figures->agreed);
+    fprintf(out, "without a value, image too %zu\n", figures->without_value);
+    fprintf(out, "gave up %zu\n", figures->undecided);
 }
 
 int demand3_over_corpus(FILE *in, FILE *out)
 {
     struct corpus *corpus = open_corpus(in);
-    struct tally tally = { 0 };
+    struct figures figures = { 0 };
     size_t records = 0;
     bool fine = true;
 
     while (fine && next_record(corpus)) {
-        fine = try_rule(record_words(corpus), &tally);
+        fine = try_rule(record_words(corpus), &figures);
         records++;
     }
-    print_tally(out, records, &tally);
+    print_figures(out, records, &figures);
     if (!fine) {
         fprintf(out, "disagreement at record %zu\n", records - 1);
         print_words(out, record_words(corpus));

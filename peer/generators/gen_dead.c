@@ -1,8 +1,8 @@
 #include "gen_dead.h"
 
+#include "../translator/rule.h"
 #include "cases.h"
 #include "gen_record.h"
-#include "rule.h"
 
 #define LEAF 0x0600, 0x0000
 #define ARM 0x0800, 0x0000

@@ -23,6 +23,6 @@ struct arms {
  * the one wanted where the arm would be dead; with dead odds, the arm is now
  * and then made dead.
  */
-void put_arm(struct maker *maker, struct arms *arms, struct arm wanted);
+void begin_arm(struct maker *maker, struct arms *arms, struct arm wanted);
 
 #endif

@@ -1,8 +1,8 @@
 #include "gen_faults.h"
 
+#include "../translator/rule.h"
 #include "cases.h"
 #include "gen_record.h"
-#include "rule.h"
 
 enum {
     EARLY_PLACE = 12,

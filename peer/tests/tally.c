@@ -1,6 +1,6 @@
 #include "tally.h"
 
-#include "image.h"
+#include "../translator/image.h"
 
 enum { UNTOUCHED_WORD = 0xA5A5 };
 

@@ -1,9 +1,9 @@
 #include "selftest_dead.h"
 
-#include "cases.h"
-#include "gen_dead.h"
-#include "gen_record.h"
-#include "image.h"
+#include "../generators/cases.h"
+#include "../generators/gen_dead.h"
+#include "../generators/gen_record.h"
+#include "../translator/image.h"
 
 struct dead_among_many {
     const char *claim;

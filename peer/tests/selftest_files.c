@@ -3,8 +3,8 @@
 #include <stdlib.h>
 #include <string.h>
 
-#include "cases.h"
-#include "file.h"
+#include "../generators/cases.h"
+#include "../translator/file.h"
 
 enum { COUNT_LOW_BYTE = 5, UNTOUCHED_BYTE = 0xA5 };
 

@@ -5,8 +5,8 @@
 #include <stddef.h>
 #include <stdio.h>
 
-#include "term.h"
-#include "words.h"
+#include "../translator/term.h"
+#include "../translator/words.h"
 
 /* A function that gives the variable of that index back. */
 struct function {

@@ -20,7 +20,7 @@ static struct arm living_arm(const struct arms *arms, struct arm arm)
     return arm;
 }
 
-void put_arm(struct maker *maker, struct arms *arms, struct arm wanted)
+void begin_arm(struct maker *maker, struct arms *arms, struct arm wanted)
 {
     bool dead = maker->dead_odds > 0 && arms->count > 0 &&
                 one_in(maker, maker->dead_odds);

@@ -90,7 +90,7 @@ static void put_free_match(struct maker *maker, struct spot spot)
         size_t arity = below(maker, ARGUMENTS_MOST + 1);
         size_t tag = below(maker, FITTING_TAGS);
 
-        put_arm(maker, &arms, (struct arm){ tag, arity });
+        begin_arm(maker, &arms, (struct arm){ tag, arity });
         put_free(maker, part_of(spot, count + 1));
         maker->bound = outside;
     }

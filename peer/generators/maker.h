@@ -6,9 +6,9 @@
 #include <stddef.h>
 #include <stdint.h>
 
-#include "rule.h"
-#include "term.h"
-#include "words.h"
+#include "../translator/rule.h"
+#include "../translator/term.h"
+#include "../translator/words.h"
 
 enum {
     TARGET_LEAST = 4, /* below it only a leaf is written */
