@@ -100,19 +100,6 @@ static void harm_rule(struct maker *maker, struct record *record)
     }
 }
 
-/* One step of splitmix64, so that neighbouring numbers share nothing. */
-static uint32_t state_of_rule(uint32_t seed, size_t number)
-{
-    const int seed_shift = 32;
-    uint64_t mixed = ((uint64_t)seed << seed_shift) + number;
-
-    mixed += 0x9E3779B97F4A7C15u;
-    mixed = (mixed ^ mixed >> 30) * 0xBF58476D1CE4E5B9u;
-    mixed = (mixed ^ mixed >> 27) * 0x94D049BB133111EBu;
-    mixed ^= mixed >> 31;
-    return (uint32_t)mixed == 0 ? 1 : (uint32_t)mixed;
-}
-
 static size_t dead_odds_of_rule(struct maker *maker)
 {
     return one_in(maker, DEAD_RULE_ODDS)
@@ -120,11 +107,10 @@ static size_t dead_odds_of_rule(struct maker *maker)
                : 0;
 }
 
-static void put_rule(struct record *record, uint32_t seed, size_t number)
+void put_rule(struct record *record, uint32_t seed, size_t number)
 {
     const size_t words_most = RECORD_WORDS_MOST - APPENDED_WORDS_MOST;
-    struct maker maker =
-        maker_into(&record->sink, state_of_rule(seed, number));
+    struct maker maker = maker_into(&record->sink, state_of(seed, number));
     bool harmed = one_in(&maker, DAMAGED_ODDS);
     size_t dead_odds = dead_odds_of_rule(&maker);
 

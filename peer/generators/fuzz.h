@@ -9,12 +9,17 @@
 #include <stdint.h>
 #include <stdio.h>
 
+#include "gen_record.h"
+
 struct stretch {
     uint32_t seed;
     size_t first; /* the number of the first rule, counted from 0 */
     size_t count;
     size_t bytes; /* no record is begun that would end beyond them */
 };
+
+/* One rule, whose record is started afresh. */
+void put_rule(struct record *record, uint32_t seed, size_t number);
 
 /* Writes records; the result is how many. */
 size_t write_stretch(FILE *out, struct stretch stretch);

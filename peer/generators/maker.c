@@ -6,6 +6,19 @@ enum { FIRST_SHIFT = 13, SECOND_SHIFT = 17, THIRD_SHIFT = 5 };
 
 enum { LARGE_COUNT_FOR_SPOT_ODDS = 3 };
 
+/* One step of splitmix64, so that neighbouring numbers share nothing. */
+uint32_t state_of(uint32_t seed, size_t number)
+{
+    const int seed_shift = 32;
+    uint64_t mixed = ((uint64_t)seed << seed_shift) + number;
+
+    mixed += 0x9E3779B97F4A7C15u;
+    mixed = (mixed ^ mixed >> 30) * 0xBF58476D1CE4E5B9u;
+    mixed = (mixed ^ mixed >> 27) * 0x94D049BB133111EBu;
+    mixed ^= mixed >> 31;
+    return (uint32_t)mixed == 0 ? 1 : (uint32_t)mixed;
+}
+
 struct maker maker_into(struct word_sink *sink, uint32_t state)
 {
     return (struct maker){ .sink = sink,

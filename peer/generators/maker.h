@@ -44,6 +44,9 @@ struct spot {
     size_t depth;
 };
 
+/* Of what has that number in a seed's row; it follows from these two alone. */
+uint32_t state_of(uint32_t seed, size_t number);
+
 /* The state must not be 0, or every draw is. */
 struct maker maker_into(struct word_sink *sink, uint32_t state);
 
