@@ -8,14 +8,26 @@
 
 enum { COUNT_LOW_BYTE = 5, UNTOUCHED_BYTE = 0xA5 };
 
-static void try_packing(struct tally *tally)
+static void try_unpacking(struct tally *tally, size_t capacity)
 {
-    uint8_t bytes[LENT_BYTES];
     uint16_t words[LENT_WORDS];
     struct word_list rule = accepted_cases[1].rule;
 
-    memset(bytes, UNTOUCHED_BYTE, sizeof bytes);
     lend_words(words);
+    struct reply unpacked =
+        unpack_file(FORM_RULE, case_b_file, words, capacity);
+    struct word_list found = { words, unpacked.count };
+    expect(tally, words_are_equal(found, rule), "case B", "unpacked words");
+    expect(tally, untouched_from(words, rule.count), "case B",
+           "words past the rule are unchanged");
+}
+
+static void try_packing(struct tally *tally)
+{
+    uint8_t bytes[LENT_BYTES];
+    struct word_list rule = accepted_cases[1].rule;
+
+    memset(bytes, UNTOUCHED_BYTE, sizeof bytes);
     struct reply packed = pack_file(FORM_RULE, rule, bytes, sizeof bytes);
     expect(tally,
            packed.count == case_b_file.count &&
@@ -23,12 +35,8 @@ static void try_packing(struct tally *tally)
            "case B", "packed file");
     expect(tally, bytes[packed.count] == UNTOUCHED_BYTE, "case B",
            "bytes past the file are unchanged");
-    struct reply unpacked =
-        unpack_file(FORM_RULE, case_b_file, words, rule.count);
-    struct word_list found = { words, unpacked.count };
-    expect(tally, words_are_equal(found, rule), "case B", "unpacked words");
-    expect(tally, untouched_from(words, rule.count), "case B",
-           "words past the rule are unchanged");
+    try_unpacking(tally, rule.count);
+    try_unpacking(tally, LENT_WORDS);
 }
 
 struct refused_file {
@@ -46,8 +54,12 @@ static const struct refused_file refused_files[] = {
     { "six bytes", FORM_RULE, "LRS\1\0\0", 6, 8, REFUSED_MARK },
     { "mark of the other form", FORM_IMAGE, "LRS\1\0\1\0\0\6", 9, 8,
       REFUSED_MARK },
+    { "mark's first byte", FORM_RULE, "MRS\1\0\1\0\0\6", 9, 8, REFUSED_MARK },
+    { "mark's second byte", FORM_RULE, "LSS\1\0\1\0\0\6", 9, 8, REFUSED_MARK },
+    { "mark in lower case", FORM_RULE, "lrs\1\0\1\0\0\6", 9, 8, REFUSED_MARK },
     { "mark before version", FORM_RULE, "LRI\2\0\1\0\0\6", 9, 8,
       REFUSED_MARK },
+    { "version 0", FORM_RULE, "LRS\0\0\1\0\0\6", 9, 8, REFUSED_VERSION },
     { "version 2", FORM_RULE, "LRS\2\0\1\0\0\6", 9, 8, REFUSED_VERSION },
     { "version 257, wrong length", FORM_RULE, "LRS\1\1\1\0\0", 8, 8,
       REFUSED_VERSION },
@@ -57,8 +69,14 @@ static const struct refused_file refused_files[] = {
       REFUSED_FILE_LENGTH },
     { "no words but a byte", FORM_RULE, "LRS\1\0\0\0\0", 8, 8,
       REFUSED_FILE_LENGTH },
+    { "count past the limit, wrong length", FORM_RULE, "LRS\1\0\1\20\0\6", 9, 8,
+      REFUSED_FILE_LENGTH },
+    { "count that is right but for its highest bit", FORM_RULE,
+      "LRS\1\0\1\200\0\6", 9, 8, REFUSED_FILE_LENGTH },
     { "no words", FORM_RULE, "LRS\1\0\0\0", 7, 0, REFUSED_NO_WORDS },
     { "output short", FORM_RULE, "LRS\1\0\1\0\0\6", 9, 0,
+      REFUSED_OUTPUT_SHORT },
+    { "output one word short", FORM_RULE, "LRS\1\0\2\0\0\6\0\0", 11, 1,
       REFUSED_OUTPUT_SHORT },
 };
 
@@ -104,8 +122,10 @@ static void try_longest(struct tally *tally, enum file_form form, size_t most)
     file.count += BYTES_OF_A_WORD;
     expect(tally,
            is_placeless(unpack_file(form, file, back, most + 1).refusal,
-                        REFUSED_TOO_MANY_WORDS),
-           "files", "unpacking one word too many");
+                        REFUSED_TOO_MANY_WORDS) &&
+               is_placeless(unpack_file(form, file, back, most).refusal,
+                            REFUSED_TOO_MANY_WORDS),
+           "files", "unpacking one word too many, whatever the room");
     free(bytes);
     free(words);
     free(back);
@@ -132,6 +152,20 @@ static void try_packing_refusals(struct tally *tally)
            "refused packing leaves the bytes unchanged");
 }
 
+/* In 16 bits their count is 1. */
+static void try_most_words(struct tally *tally)
+{
+    static const uint16_t words[UINT16_MAX + 2];
+    const struct word_list many = { words, UINT16_MAX + 2 };
+    uint8_t bytes[LENT_BYTES];
+
+    expect(tally,
+           is_placeless(
+               pack_file(FORM_IMAGE, many, bytes, sizeof bytes).refusal,
+               REFUSED_TOO_MANY_WORDS),
+           "files", "packing more words than a count can say");
+}
+
 void try_files(struct tally *tally)
 {
     try_packing(tally);
@@ -139,4 +173,5 @@ void try_files(struct tally *tally)
     try_refused_files(tally);
     try_longest(tally, FORM_RULE, RULE_WORDS_MOST);
     try_longest(tally, FORM_IMAGE, IMAGE_WORDS_MOST);
+    try_most_words(tally);
 }
