@@ -1,20 +1,26 @@
 -- The ways out of the functions that make text, in the words of the code: one law for each.
 -- Assumes nothing.
-use Prim.Native.Nat.{ℕ, zero, suc, _+_, _-_, _*_, _/_, _%_, _<_, _≤_}
-use mathlib.Core.Path.{_≡_, refl, sym, _∙_, subst}
-use mathlib.Core.List.{List, [], _∷_, _++_}
+use Prim.Native.Nat.{ℕ, zero, suc, _+_, _-_, _*_, _/_, _%_, _^_, _<_, _≤_}
+use mathlib.Core.Path.{_≡_, refl, sym, ap, _∙_, subst}
+use mathlib.Core.Bool.{Bool, true, false, cond}
+use mathlib.Core.List.{List, [], _∷_, _++_, append-nil, append-assoc}
 use native.Mathlib.Omega.{arith}
+use native.Mathlib.Nat.{le-antisymm, pow-le-pow-right}
 use native.Mathlib.Numerals.{add-one, towards-suc}
-use lib.ListN.{length, getD, drop, set, length-append, drop-of-length-le}
-use lib.Seq.{sets, drop-cons}
-use borrow.Author.Tests.{lt-ltb, le-ltb, eq-eqb, ne-eqb}
-use Rattle.io.specs.Digits.{digits}
+use lib.Dec.{ltb}
+use lib.ListN.{length, getD, take, drop, set, length-append, length-drop, length-set, drop-of-length-le}
+use lib.Seq.{sets, sets-eq, drop-cons, drop-drop, take-all, take-length}
+use borrow.Rule.Slice.PartMut.{putMid}
+use borrow.Author.Tests.{ltb-true, ltb-false, lt-ltb, le-ltb, eq-eqb, ne-eqb}
+use Rattle.io.specs.Counts.{Counts}
+use Rattle.io.specs.Digits.{digits, Fewest}
 use Rattle.language.specs.Read.{noPlace}
 use Rattle.language.specs.Calls.{Outcome, replyOf, told, filled}
 use Rattle.language.specs.declared.Answer.{Answer}
 use Rattle.language.specs.declared.Answer.the-variants.{Count, Refusal}
 use Rattle.language.proofs.Stores.{store-more, store-last, store-rest, filled-short, filled-whole}
-use Rattle.listing.specs.Text.{space, newline, hexDigit, endOf, wordText, listed, placesOf, numberText, okText, noText, line, replyText}
+use Rattle.listing.specs.Spelled.{Spelled}
+use Rattle.listing.specs.Text.{space, newline, hexDigit, endOf, wordText, listed, enough, placesOf, decimalText, numberText, okText, noText, line, replyText}
 
 -- a digit
 pub below-ten : (d : ℕ) → d < 10 → 48 + d ≡ hexDigit d
@@ -52,48 +58,42 @@ words-end o goal ws at n i e h g =
     let l : length ws ≤ i = omega arith in
     subst (λ (x : List ℕ). sets o (at + 5 * i) (listed n i x) ≡ goal) (drop-of-length-le ws l) g
 
--- a number's digits
-pub one-digit : (n : ℕ) → n < 10 → 1 ≡ placesOf n
-one-digit n h = simp (lt-ltb n 10 h)
-
-pub two-digits : (n : ℕ) → 10 ≤ n → n < 100 → 2 ≡ placesOf n
-two-digits n a h = simp (le-ltb n 10 a, lt-ltb n 100 h)
-
-pub three-digits : (n : ℕ) → 100 ≤ n → n < 1000 → 3 ≡ placesOf n
-three-digits n a h = simp (le-ltb n 10 (omega arith), le-ltb n 100 a, lt-ltb n 1000 h)
-
-pub four-digits : (n : ℕ) → 1000 ≤ n → n < 10000 → 4 ≡ placesOf n
-four-digits n a h = simp (le-ltb n 10 (omega arith), le-ltb n 100 (omega arith), le-ltb n 1000 a, lt-ltb n 10000 h)
-
-pub five-digits : (n : ℕ) → 10000 ≤ n → 5 ≡ placesOf n
-five-digits n a = simp (le-ltb n 10 (omega arith), le-ltb n 100 (omega arith), le-ltb n 1000 (omega arith), le-ltb n 10000 a)
-
-digits-length : (k n : ℕ) → length (digits 10 k n) ≡ k
-digits-length zero n = refl
-digits-length (suc k) n = simp length-append (omega (arith, digits-length k (n / 10)))
-
-pub no-digits : (l : List ℕ) (at k n : ℕ) → k ≡ 0 → l ≡ sets l at (digits 10 k n)
-no-digits l at k n e = rw e
-
-pub digit-stored : (l : List ℕ) (at k n : ℕ) {o : List ℕ} → (k ≡ 0 → ⊥) → o ≡ sets l at (digits 10 (k - 1) (n / 10))
-    → set o (at + k - 1) (48 + n % 10) ≡ sets l at (digits 10 k n)
-digit-stored l at zero n z e = absurd (z refl)
-digit-stored l at (suc k) n {o} z e =
-    let d : List ℕ = digits 10 k (n / 10) in
-    let p : at + suc k - 1 ≡ at + length d = omega (arith, digits-length k (n / 10)) in
+-- a number's digits are the fewest that hold it, and no other number of digits is the fewest
+one-more : (n k : ℕ) (b : Bool) → ltb (suc n) (10 ^ k) ≡ b → Fewest 10 1 n k → Fewest 10 1 (suc n) (cond b k (suc k))
+one-more n k true e f = (f .0, ltb-true (suc n) (10 ^ k) e, λ h. omega (arith, f .2 h))
+one-more n k false e f =
+    let m : suc n < 10 ^ suc k = omega arith in
     let q : suc k - 1 ≡ k = omega arith in
-    let f : o ≡ sets l at d = subst (λ (x : ℕ). o ≡ sets l at (digits 10 x (n / 10))) q e in
-    store-last l at d (48 + n % 10) f p ∙ simp (lt-ltb (n % 10) 10 (omega arith))
+    (omega arith, m, λ h. rw q (ltb-false (suc n) (10 ^ k) e))
 
--- a space and a number
-pub number-stored : (l : List ℕ) (at n : ℕ) {k : ℕ} {o : List ℕ} → k ≡ placesOf n → o ≡ sets (set l at space) (at + 1) (digits 10 k n)
-    → o ≡ sets l at (numberText n)
-unfolding numberText
-number-stored l at n e f = rw (f, e) (simp towards-suc)
+fewest : (n : ℕ) → Fewest 10 1 n (placesOf n)
+unfolding placesOf enough
+fewest zero = (omega arith, omega arith, λ h. omega arith)
+fewest (suc n) = one-more n (placesOf n) (ltb (suc n) (10 ^ placesOf n)) refl (fewest n)
 
-number-length : (n : ℕ) → length (numberText n) ≡ placesOf n + 1
-unfolding numberText
-number-length n = omega (arith, digits-length (placesOf n) n)
+no-more : (n j k : ℕ) → 1 ≤ j → n < 10 ^ j → Fewest 10 1 n k → k ≤ j
+no-more n j k o m f =
+    let z : j < k → ⊥ = λ h. omega (arith, f .2 (omega arith), pow-le-pow-right {n = 10} (omega arith) {i = j} {j = k - 1} (omega arith)) in
+    omega arith
+
+pub spelled : (n k : ℕ) (t : List ℕ) → n < 2 ^ 64 → Counts k t → Fewest 10 1 n k → take k t ≡ digits 10 k n → Spelled n k t
+unfolding decimalText
+spelled n k t m c f e =
+    let g : Fewest 10 1 n (placesOf n) = fewest n in
+    let q : k ≡ placesOf n = le-antisymm (no-more n (placesOf n) k (g .0) (g .1) f) (no-more n k (placesOf n) (f .0) (f .1) g) in
+    record { few = no-more n 20 k (omega arith) (omega arith) f; counts = c; is = e ∙ ap (λ j. digits 10 j n) q }
+
+-- a space and a number: the digits are copied to the front of what is behind the space
+copied : (l ds : List ℕ) (at : ℕ) {o : List ℕ} → at + length ds ≤ length l
+    → o ≡ take (length ds) ds ++ drop (length ds) (take (length l - at) (drop at l)) → putMid at (length l - at) l o ≡ sets l at ds
+copied l ds at h e =
+    let r : length (drop at l) ≤ length l - at = simp length-drop (omega arith) in
+    rw (e, take-length, take-all _ _ r, drop-drop, drop-of-length-le (drop at l) r, append-nil, sets-eq ds l at h, append-assoc)
+
+pub number-stored : (l ds : List ℕ) (at : ℕ) {o : List ℕ} → at + 1 + length ds ≤ length l
+    → o ≡ take (length ds) ds ++ drop (length ds) (take (length (set l at space) - (at + 1)) (drop (at + 1) (set l at space)))
+    → putMid (at + 1) (length (set l at space) - (at + 1)) (set l at space) o ≡ sets l at (space ∷ ds)
+number-stored l ds at h e = copied (set l at space) ds (at + 1) (simp length-set (omega arith)) e ∙ simp towards-suc
 
 listed-length : (n i : ℕ) (ws : List ℕ) → length (listed n i ws) ≡ 5 * length ws
 unfolding listed
@@ -107,44 +107,50 @@ line-length start = length-append start (newline ∷ [])
 line-stored : (out start : List ℕ) {o : List ℕ} {n : ℕ} → o ≡ sets out 0 start → n ≡ length start → set o n newline ≡ sets out 0 (line start)
 line-stored out start e k = store-last out 0 start newline e (omega arith)
 
--- the reply of a refusal
-module _ (e p : ℕ) (out : List ℕ) {k j : ℕ} (x : k ≡ placesOf e) (y : j ≡ placesOf p) where
-  refusal-length : length (noText e ++ numberText p) ≡ k + 3 + 1 + j
-  refusal-length = simp length-append (omega (arith, number-length e, number-length p))
+-- a number's length is that of its digits
+spelled-length : {n k : ℕ} {t : List ℕ} → Spelled n k t → length (decimalText n) ≡ k
+spelled-length x = ap length (sym (x .is)) ∙ sym (x .counts .1)
 
-  ended : length (line (noText e ++ numberText p)) ≡ k + 3 + 1 + j + 1
+-- the reply of a refusal
+module _ (e p : ℕ) (out : List ℕ) {k j : ℕ} {s t : List ℕ} (x : Spelled e k s) (y : Spelled p j t) where
+  refusal-length : length (noText e ++ numberText p) ≡ 3 + k + 1 + j
+  refusal-length = simp length-append (omega (arith, spelled-length x, spelled-length y))
+
+  ended : length (line (noText e ++ numberText p)) ≡ 3 + k + 1 + j + 1
   ended = omega (arith, line-length (noText e ++ numberText p), refusal-length)
 
-  pub refusal-short : length out ≤ k + 3 + 1 + j → told (Refusal 9 noPlace) out ≡ filled (line (noText e ++ numberText p)) out
+  pub refusal-short : length out ≤ 3 + k + 1 + j → told (Refusal 9 noPlace) out ≡ filled (line (noText e ++ numberText p)) out
   refusal-short h = filled-short (line (noText e ++ numberText p)) out (omega (arith, ended))
 
-  pub refusal-whole : {o o' : List ℕ} → k + 3 + 1 + j < length out → o ≡ sets out 0 (noText e) → o' ≡ sets o (k + 3) (numberText p)
-      → told (Count (k + 3 + 1 + j + 1)) (set o' (k + 3 + 1 + j) newline) ≡ filled (line (noText e ++ numberText p)) out
+  pub refusal-whole : {o o' : List ℕ} → 3 + k + 1 + j < length out → o ≡ sets out 0 (110 ∷ 111 ∷ space ∷ take k s)
+      → o' ≡ sets o (3 + k) (space ∷ take j t)
+      → told (Count (3 + k + 1 + j + 1)) (set o' (3 + k + 1 + j) newline) ≡ filled (line (noText e ++ numberText p)) out
   refusal-whole h f g =
       filled-whole (line (noText e ++ numberText p)) out (omega (arith, ended)) (sym ended)
-      (line-stored out (noText e ++ numberText p) (store-more out 0 (noText e) (numberText p) f (omega (arith, number-length e)) g) (sym refusal-length))
+      (line-stored out (noText e ++ numberText p)
+      (store-more out 0 (noText e) (numberText p) (rw (x .is) at f) (omega (arith, spelled-length x)) (rw (y .is) at g)) (sym refusal-length))
 
 -- the reply with an image's words
-module _ (n : ℕ) (ws out : List ℕ) {k : ℕ} (e : k ≡ placesOf n) where
-  start-length : length (okText n) ≡ k + 3
-  start-length = omega (arith, number-length n)
+module _ (n : ℕ) (ws out : List ℕ) {k : ℕ} {s : List ℕ} (x : Spelled n k s) where
+  start-length : length (okText n) ≡ 3 + k
+  start-length = omega (arith, spelled-length x)
 
-  text-length : length (line (okText n) ++ listed (length ws) 0 ws) ≡ k + 3 + 1 + 5 * length ws
+  text-length : length (line (okText n) ++ listed (length ws) 0 ws) ≡ 3 + k + 1 + 5 * length ws
   text-length = simp length-append (omega (arith, start-length, listed-length (length ws) 0 ws))
 
-  pub image-short : length out ≤ k + 3 → told (Refusal 9 noPlace) out ≡ filled (line (okText n) ++ listed (length ws) 0 ws) out
+  pub image-short : length out ≤ 3 + k → told (Refusal 9 noPlace) out ≡ filled (line (okText n) ++ listed (length ws) 0 ws) out
   image-short h = filled-short (line (okText n) ++ listed (length ws) 0 ws) out (omega (arith, text-length))
 
-  pub words-too-many : k + 3 < length out → (length out - (k + 3) - 1) / 5 < length ws
+  pub words-too-many : 3 + k < length out → (length out - (3 + k) - 1) / 5 < length ws
       → told (Refusal 9 noPlace) out ≡ filled (line (okText n) ++ listed (length ws) 0 ws) out
   words-too-many l h = filled-short (line (okText n) ++ listed (length ws) 0 ws) out (omega (arith, text-length))
 
-  pub image-whole : {o o' : List ℕ} → k + 3 < length out → length ws ≤ (length out - (k + 3) - 1) / 5 → o ≡ sets out 0 (okText n)
-      → o' ≡ sets (set o (k + 3) newline) (k + 3 + 1) (listed (length ws) 0 ws)
-      → told (Count (k + 3 + 1 + 5 * length ws)) o' ≡ filled (line (okText n) ++ listed (length ws) 0 ws) out
+  pub image-whole : {o o' : List ℕ} → 3 + k < length out → length ws ≤ (length out - (3 + k) - 1) / 5
+      → o ≡ sets out 0 (111 ∷ 107 ∷ space ∷ take k s) → o' ≡ sets (set o (3 + k) newline) (3 + k + 1) (listed (length ws) 0 ws)
+      → told (Count (3 + k + 1 + 5 * length ws)) o' ≡ filled (line (okText n) ++ listed (length ws) 0 ws) out
   image-whole l h f g =
       filled-whole (line (okText n) ++ listed (length ws) 0 ws) out (omega (arith, text-length)) (sym text-length)
-      (store-more out 0 (line (okText n)) (listed (length ws) 0 ws) (line-stored out (okText n) f (sym start-length))
+      (store-more out 0 (line (okText n)) (listed (length ws) 0 ws) (line-stored out (okText n) (rw (x .is) at f) (sym start-length))
       (omega (arith, line-length (okText n), start-length)) g)
 
 -- the whole answer, by the reply
@@ -166,13 +172,7 @@ pub ruleset ways = (
   within-line,
   word-stored,
   words-end,
-  one-digit,
-  two-digits,
-  three-digits,
-  four-digits,
-  five-digits,
-  no-digits,
-  digit-stored,
+  spelled,
   number-stored,
   refusal-short,
   refusal-whole,

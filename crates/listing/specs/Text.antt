@@ -1,5 +1,5 @@
 -- What the bench program prints: document 01, "Worked rules", its last paragraph, and document 02, Wish 1. Bytes are those of ASCII.
-use Prim.Native.Nat.{ℕ, _+_, _/_, _%_}
+use Prim.Native.Nat.{ℕ, zero, suc, _+_, _/_, _%_, _^_}
 use mathlib.Core.Bool.{cond, _||_}
 use mathlib.Core.List.{List, [], _∷_, _++_}
 use lib.Dec.{ltb, eqb}
@@ -30,13 +30,22 @@ unfoldable pub listed : ℕ → ℕ → List ℕ → List ℕ
 listed n i [] = []
 listed n i (w ∷ ws) = wordText w (endOf n i) ++ listed n (i + 1) ws
 
--- how many decimal digits a number below 100,000 has; no reply gives a larger one
-abbrev pub placesOf : ℕ → ℕ
-placesOf n = cond (ltb n 10) 1 (cond (ltb n 100) 2 (cond (ltb n 1000) 3 (cond (ltb n 10000) 4 5)))
+-- k decimal digits where they hold n, and one more where they do not
+unfoldable pub enough : ℕ → ℕ → ℕ
+enough n k = cond (ltb n (10 ^ k)) k (suc k)
+
+-- how many decimal digits a number has: 0 has one, and each further number as many as the one before it, or one more
+unfoldable pub placesOf : ℕ → ℕ
+placesOf zero = 1
+placesOf (suc n) = enough (suc n) (placesOf n)
+
+-- "the image's count", "the number" and "the place" in print: their decimal digits, as many as they have
+unfoldable pub decimalText : ℕ → List ℕ
+decimalText n = digits 10 (placesOf n) n
 
 -- a space and a number
-unfoldable pub numberText : ℕ → List ℕ
-numberText n = space ∷ digits 10 (placesOf n) n
+abbrev pub numberText : ℕ → List ℕ
+numberText n = space ∷ decimalText n
 
 -- `ok` and a number
 abbrev pub okText : ℕ → List ℕ

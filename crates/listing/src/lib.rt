@@ -5,9 +5,9 @@ ghost use Prim.Native.Nat.{_+_, _*_, _≤_, _<_};
 ghost use mathlib.Core.List.{_∷_, _++_};
 ghost use lib.ListN.{length};
 ghost use lib.Seq.{sets};
-ghost use Rattle.io.specs.Digits.{digits};
 ghost use Rattle.language.specs.Calls.{replyOf, told, filled};
-ghost use Rattle.listing.specs.Text.{hexDigit, endOf, wordText, listed, placesOf, numberText, okText, noText, line, replyText};
+ghost use Rattle.listing.specs.Spelled.{Spelled};
+ghost use Rattle.listing.specs.Text.{space, hexDigit, endOf, wordText, listed, numberText, okText, noText, line, replyText};
 
 const SPACE: u8 = b' ';
 
@@ -20,6 +20,9 @@ const WORDS_TO_A_LINE: usize = 8;
 
 // The bytes before a line's first digit: two letters and a space.
 const START_BYTES: usize = 3;
+
+// The most decimal digits of a number of 64 bits.
+const MOST_DIGITS: usize = 20;
 
 fn hex_digit(d: u16) -> u8
     requires { ⌜ d < 16 ⌝ }
@@ -70,69 +73,48 @@ pub fn put_words(out: &mut [u8], at: usize, words: &[u16])
     }
 }
 
-// How many decimal digits a number has, up to five.
-fn places(n: usize) -> usize
-    ensures { λ r. ⌜ (r ≡ placesOf n) × (r ≤ 5) ⌝ }
+// A number's decimal digits, at the front of the buffer, and how many there are.
+fn spell(buffer: &mut [u8; MOST_DIGITS], n: u64) -> usize
+    ensures { λ r. ⌜ Spelled n r (now (buffer .exit)) ⌝ }
 {
-    if n < 10 {
-        return 1;
-    }
-    if n < 100 {
-        return 2;
-    }
-    if n < 1000 {
-        return 3;
-    }
-    if n < 10000 {
-        return 4;
-    }
-    5
+    io::decimal(n, buffer)
 }
 
-// The last k decimal digits of n.
-fn put_digits(out: &mut [u8], at: usize, k: usize, n: usize)
-    requires { ⌜ at + k ≤ length (now out) ⌝ }
-    ensures { λ r. ⌜ now (out .exit) ≡ sets (now (out .entry)) at (digits 10 k n) ⌝ }
-{
-    if k == 0 {
-        return;
-    }
-    put_digits(out, at, k - 1, n / 10);
-    out[at + k - 1] = b'0' + (n % 10) as u8;
-}
-
-// A space and a number of k digits.
-fn put_number(out: &mut [u8], at: usize, n: usize, k: usize)
-    requires { ⌜ (k ≡ placesOf n) × (at + k + 1 ≤ length (now out)) ⌝ }
-    ensures { λ r. ⌜ now (out .exit) ≡ sets (now (out .entry)) at (numberText n) ⌝ }
+// A space and a number's digits.
+fn put_number(out: &mut [u8], at: usize, digits: &[u8])
+    requires { ⌜ at + 1 + length (now digits) ≤ length (now out) ⌝ }
+    ensures { λ r. ⌜ now (out .exit) ≡ sets (now (out .entry)) at (space ∷ now (digits .entry)) ⌝ }
 {
     out[at] = SPACE;
-    put_digits(out, at + 1, k, n);
+    let from = at + 1;
+    bytes::copy(digits, &mut out[from..]);
 }
 
-// The start of a line: two letters and a number of k digits.
-fn put_start(out: &mut [u8], a: u8, b: u8, n: usize, k: usize)
-    requires { ⌜ (k ≡ placesOf n) × (k + 3 ≤ length (now out)) ⌝ }
-    ensures { λ r. ⌜ now (out .exit) ≡ sets (now (out .entry)) 0 (a ∷ b ∷ numberText n) ⌝ }
+// The start of a line: two letters, a space and a number's digits.
+fn put_start(out: &mut [u8], a: u8, b: u8, digits: &[u8])
+    requires { ⌜ 3 + length (now digits) ≤ length (now out) ⌝ }
+    ensures { λ r. ⌜ now (out .exit) ≡ sets (now (out .entry)) 0 (a ∷ b ∷ space ∷ now (digits .entry)) ⌝ }
 {
     out[0] = a;
     out[1] = b;
-    put_number(out, 2, n, k);
+    put_number(out, 2, digits);
 }
 
 // A refusal's number and its place.
 fn show_refusal(out: &mut [u8], e: u8, p: usize) -> Answer
     ensures { λ r. ⌜ told r (now (out .exit)) ≡ filled (line (noText e ++ numberText p)) (now (out .entry)) ⌝ }
 {
-    let digits = places(e as usize);
-    let next = digits + START_BYTES;
-    let more = places(p);
+    let mut number = [0u8; MOST_DIGITS];
+    let digits = spell(&mut number, e as u64);
+    let mut place = [0u8; MOST_DIGITS];
+    let more = spell(&mut place, p as u64);
+    let next = START_BYTES + digits;
     let end = next + 1 + more;
     if out.len() <= end {
         return Answer::Refusal(language::NO_ROOM, language::NO_PLACE);
     }
-    put_start(out, b'n', b'o', e as usize, digits);
-    put_number(out, next, p, more);
+    put_start(out, b'n', b'o', &number[..digits]);
+    put_number(out, next, &place[..more]);
     out[end] = NEWLINE;
     Answer::Count(end + 1)
 }
@@ -141,15 +123,16 @@ fn show_refusal(out: &mut [u8], e: u8, p: usize) -> Answer
 fn show_image(out: &mut [u8], n: usize, words: &[u16]) -> Answer
     ensures { λ r. ⌜ told r (now (out .exit)) ≡ filled (line (okText n) ++ listed (length (now (words .entry))) 0 (now (words .entry))) (now (out .entry)) ⌝ }
 {
-    let digits = places(n);
-    let end = digits + START_BYTES;
+    let mut number = [0u8; MOST_DIGITS];
+    let digits = spell(&mut number, n as u64);
+    let end = START_BYTES + digits;
     if out.len() <= end {
         return Answer::Refusal(language::NO_ROOM, language::NO_PLACE);
     }
     if (out.len() - end - 1) / WORD_BYTES < words.len() {
         return Answer::Refusal(language::NO_ROOM, language::NO_PLACE);
     }
-    put_start(out, b'o', b'k', n, digits);
+    put_start(out, b'o', b'k', &number[..digits]);
     out[end] = NEWLINE;
     put_words(out, end + 1, words);
     Answer::Count(end + 1 + WORD_BYTES * words.len())

@@ -1,14 +1,14 @@
 -- `listing::show_image` meets its contract. Assumes nothing.
-use borrow.Author.Needs.{needs}
 use mathlib.Core.Path.{ap, _∙_}
 use lib.ListN.{length, length-set}
 use lib.Seq.{length-sets}
 use Rattle.listing.proofs.Ways.{ways}
+use borrow.Author.Needs.{needs}
 use Rattle.listing.proofs.show_image.Statement.{statement}
 use Rattle.listing.proofs.show_image.Tie as tie
 
-places-requires : tie.Need-places-requires
-places-requires c κs = search needs
+spell-requires : tie.Need-spell-requires
+spell-requires c κs = search needs
 
 add-end : tie.Need-add-end
 add-end c = search needs
@@ -25,6 +25,12 @@ sub-if2-2 c = search needs
 returns-2 : tie.Need-returns-2
 returns-2 c = search ways
 
+array-share-prefix-number : tie.Need-array-share-prefix-number
+array-share-prefix-number c = search needs
+
+slice-aggregate-put-start : tie.Need-slice-aggregate-put-start
+slice-aggregate-put-start c = search needs
+
 put-start-requires : tie.Need-put-start-requires
 put-start-requires c κs = search needs
 
@@ -37,14 +43,14 @@ add-put-words c = search needs
 put-words-requires : tie.Need-put-words-requires
 put-words-requires c κs = simp length-set (search needs)
 
-add-t8 : tie.Need-add-t8
-add-t8 c = search needs
-
-mul-t9 : tie.Need-mul-t9
-mul-t9 c = search needs
-
 add-t11 : tie.Need-add-t11
 add-t11 c = search needs
+
+mul-t12 : tie.Need-mul-t12
+mul-t12 c = search needs
+
+add-t14 : tie.Need-add-t14
+add-t14 c = search needs
 
 same-length : tie.Need-same-length
 same-length c =
@@ -58,18 +64,20 @@ pub show-image-spec : {M : Type 1} → statement M
 show-image-spec =
     tie.close
     (tie.spec
-    places-requires
+    spell-requires
     add-end
     returns
     sub-if2
     sub-if2-2
     returns-2
+    array-share-prefix-number
+    slice-aggregate-put-start
     put-start-requires
     slice-write-out
     add-put-words
     put-words-requires
-    add-t8
-    mul-t9
     add-t11
+    mul-t12
+    add-t14
     same-length
     returns-3)

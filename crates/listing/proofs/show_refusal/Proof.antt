@@ -1,18 +1,18 @@
 -- `listing::show_refusal` meets its contract. Assumes nothing.
-use borrow.Author.Needs.{needs}
 use lib.ListN.{length-set}
 use Rattle.listing.proofs.Ways.{ways}
+use borrow.Author.Needs.{needs}
 use Rattle.listing.proofs.show_refusal.Statement.{statement}
 use Rattle.listing.proofs.show_refusal.Tie as tie
 
-places-requires : tie.Need-places-requires
-places-requires c κs = search needs
+spell-requires : tie.Need-spell-requires
+spell-requires c κs = search needs
+
+spell-requires-2 : tie.Need-spell-requires-2
+spell-requires-2 c κs = search needs
 
 add-next : tie.Need-add-next
 add-next c = search needs
-
-places-requires-2 : tie.Need-places-requires-2
-places-requires-2 c κs = search needs
 
 add-end : tie.Need-add-end
 add-end c = search needs
@@ -23,8 +23,20 @@ add-end-2 c = search needs
 returns : tie.Need-returns
 returns c = search ways
 
+array-share-prefix-number : tie.Need-array-share-prefix-number
+array-share-prefix-number c = search needs
+
+slice-aggregate-put-start : tie.Need-slice-aggregate-put-start
+slice-aggregate-put-start c = search needs
+
 put-start-requires : tie.Need-put-start-requires
 put-start-requires c κs = search needs
+
+array-share-prefix-place : tie.Need-array-share-prefix-place
+array-share-prefix-place c = search needs
+
+slice-aggregate-put-number : tie.Need-slice-aggregate-put-number
+slice-aggregate-put-number c = search needs
 
 put-number-requires : tie.Need-put-number-requires
 put-number-requires c κs = search needs
@@ -32,8 +44,8 @@ put-number-requires c κs = search needs
 slice-write-out : tie.Need-slice-write-out
 slice-write-out c = search needs
 
-add-t8 : tie.Need-add-t8
-add-t8 c = search needs
+add-t13 : tie.Need-add-t13
+add-t13 c = search needs
 
 same-length : tie.Need-same-length
 same-length c = simp length-set (search needs)
@@ -45,15 +57,19 @@ pub show-refusal-spec : {M : Type 1} → statement M
 show-refusal-spec =
     tie.close
     (tie.spec
-    places-requires
+    spell-requires
+    spell-requires-2
     add-next
-    places-requires-2
     add-end
     add-end-2
     returns
+    array-share-prefix-number
+    slice-aggregate-put-start
     put-start-requires
+    array-share-prefix-place
+    slice-aggregate-put-number
     put-number-requires
     slice-write-out
-    add-t8
+    add-t13
     same-length
     returns-2)
