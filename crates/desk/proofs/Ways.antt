@@ -17,6 +17,9 @@ use Rattle.listing.specs.Text.{replyText}
 use Rattle.files.specs.Files.{most, version, headerBytes, wordAt, marked, unpacking}
 use Rattle.files.specs.declared.Form.{Form}
 use Rattle.files.specs.declared.Form.the-variants.{Rules}
+use Rattle.desk.specs.Input.{arrivedOf}
+use Rattle.desk.specs.declared.Input.{Input}
+use Rattle.desk.specs.declared.Input.the-variants.{Arrived}
 use Rattle.desk.specs.Desk.{mostBytes, zeros, onward, translated, Within, counting, refusing, Translates, Counts, countOf, imageZeros, outcomeText, answerText}
 
 -- an outcome on an output of m words: it counts no more, and leaves as many
@@ -92,9 +95,6 @@ module _ (bs out : List ℕ) where
         let v : n ≤ length zeros = count-within (subst (λ x. Within (length zeros) (replyOf x)) k w) in
         rw (told-kept a u (sound-unpacking Rules bs zeros)) v
 
-    pub t-taken : {n : ℕ} → a ≡ Count n → n ≡ length (take n ws)
-    t-taken {n} k = sym (length-take-le n ws (t-inside k))
-
     pub t-written : {n : ℕ} (b : Answer) {o : List ℕ} → a ≡ Count n → told b o ≡ written (read (take n ws)) out
         → Translates bs out b o
     unfolding replyOf onward
@@ -119,12 +119,8 @@ within-most (counting h) = h
 within-most refusing = omega arith
 
 -- the part of the image that is shown
-module _ {a : Answer} {r : ℕ} (c : Counts a r) {bs out o : List ℕ} (t : Translates bs out a o) where
-  pub a-inside : r ≤ length o
-  a-inside = rw (t .kept, c .is) (within-most (t .within))
-
-  pub a-taken : r ≡ length (take r o)
-  a-taken = sym (length-take-le r o a-inside)
+pub a-inside : {a : Answer} {r : ℕ} {bs out o : List ℕ} → Counts a r → Translates bs out a o → r ≤ length o
+a-inside c t = rw (t .kept, c .is) (within-most (t .within))
 
 -- what is shown of a reply is the text of the outcome
 reply-text : (r : Reply ℕ) (ws : List ℕ) → replyText r (take (countOf r) ws) ≡ outcomeText r ws
@@ -139,4 +135,16 @@ a-shown bs text a {r} {o} c t e =
     e ∙ ap (λ n. filled (replyText (replyOf a) (take n o)) text) (c .is) ∙ ap (λ ws. filled ws text) (reply-text (replyOf a) o)
     ∙ ap (λ x. filled (outcomeText (x .reply) (x .output)) text) (t .is)
 
-pub ruleset ways = (t-long, t-refused, t-inside, t-taken, t-written, c-refusal, c-count, a-inside, a-taken, a-shown)
+-- the part of the text that is printed
+pub p-inside : {a : Answer} {r : ℕ} {o : List ℕ} (ws text : List ℕ) → Counts a r → told a o ≡ filled ws text → r ≤ length o
+p-inside {a} ws text c e = rw (told-kept a e (sound-filled ws text), c .is) (within-most (told-within a e (sound-filled ws text)))
+
+-- the part of the input that arrived
+pub i-inside : {i : Input} {n m : ℕ} → i ≡ Arrived n → arrivedOf i ≤ m → n ≤ m
+i-inside {m = m} k h = subst (λ x. arrivedOf x ≤ m) k h
+
+-- a part is as long as was counted
+pub taken : (n : ℕ) (l : List ℕ) → n ≤ length l → n ≡ length (take n l)
+taken n l h = sym (length-take-le n l h)
+
+pub ruleset ways = (t-long, t-refused, t-inside, t-written, c-refusal, c-count, a-inside, a-shown, p-inside, i-inside, taken)
