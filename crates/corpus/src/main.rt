@@ -1,5 +1,6 @@
 // Runs the translator on many rules: standard input holds records, each a count of words and the words, all low byte first. Of each it prints
 // the refusal and its place, or the image's count and checksum, and the image itself where it is short.
+use desk::Input;
 use language::Answer;
 use libc::STDIN_FILENO;
 use libc::STDOUT_FILENO;
@@ -32,6 +33,12 @@ struct Sums {
     high: u32,
 }
 
+// The place after a record, and whether its report could be written.
+struct Reported {
+    next: usize,
+    written: bool,
+}
+
 // The sums with one word more.
 fn added(sums: Sums, word: u16) -> Sums
     requires { ⌜ (sums .low < 65521) × (sums .high < 65521) ⌝ }
@@ -54,82 +61,96 @@ fn checksum(words: &[u16]) -> Sums
     sums
 }
 
-// Prints an accepted rule's line, and its image where that is short.
-fn print_image(image: &[u16]) {
+// Prints an accepted rule's line, and its image where that is short. All that prints says whether it could be written.
+fn print_image(image: &[u16]) -> bool {
     let sums = checksum(image);
     let mut text = [0u8; 9];
     listing::put_word(&mut text, 0, sums.high as u16, b' ');
     listing::put_word(&mut text, 4, sums.low as u16, b'\n');
-    io::write_all(STDOUT_FILENO, b"ok ");
-    io::print_decimal(STDOUT_FILENO, image.len() as u64);
-    io::write_all(STDOUT_FILENO, b" ");
-    io::write_all(STDOUT_FILENO, &text);
-    if image.len() <= SHORT_IMAGE {
-        print_words(image);
-    }
+    print_count(image.len()) && io::write_all(STDOUT_FILENO, &text) && print_short(image)
 }
 
-fn print_words(image: &[u16])
-    requires { ⌜ length (now image) ≤ 64 ⌝ }
-{
+fn print_count(count: usize) -> bool {
+    io::write_all(STDOUT_FILENO, b"ok ")
+        && io::print_decimal(STDOUT_FILENO, count as u64)
+        && io::write_all(STDOUT_FILENO, b" ")
+}
+
+fn print_short(image: &[u16]) -> bool {
+    if SHORT_IMAGE < image.len() {
+        return true;
+    }
     let mut text = [0u8; SHORT_TEXT];
     listing::put_words(&mut text, 0, image);
     let size = WORD_TEXT * image.len();
-    io::write_all(STDOUT_FILENO, &text[..size]);
+    io::write_all(STDOUT_FILENO, &text[..size])
 }
 
-fn print_refusal(number: u8, place: usize) {
-    io::write_all(STDOUT_FILENO, b"no ");
-    io::print_decimal(STDOUT_FILENO, number as u64);
-    io::write_all(STDOUT_FILENO, b" ");
-    io::print_decimal(STDOUT_FILENO, place as u64);
-    io::write_all(STDOUT_FILENO, b"\n");
+fn print_refusal(number: u8, place: usize) -> bool {
+    io::write_all(STDOUT_FILENO, b"no ")
+        && io::print_decimal(STDOUT_FILENO, number as u64)
+        && io::write_all(STDOUT_FILENO, b" ")
+        && io::print_decimal(STDOUT_FILENO, place as u64)
+        && io::write_all(STDOUT_FILENO, b"\n")
 }
 
 // Translates a rule and prints what came of it.
-fn report(rule: &[u16]) {
+fn report(rule: &[u16]) -> bool {
     let mut image = [0u16; language::MOST_IMAGE_WORDS];
     match rules::write(&mut image, rule) {
         Answer::Refusal(e, p) => print_refusal(e, p),
-        Answer::Count(n) => {
-            if n <= language::MOST_IMAGE_WORDS {
-                print_image(&image[..n]);
-            }
-        }
+        Answer::Count(n) => n <= language::MOST_IMAGE_WORDS && print_image(&image[..n]),
     }
 }
 
 // Reports the record at a place, and gives the place after it; the end where there is no whole record.
-fn record(bytes: &[u8], at: usize) -> usize
+fn record(bytes: &[u8], at: usize) -> Reported
     requires { ⌜ at < length (now bytes) ⌝ }
-    ensures { λ r. ⌜ (at < r) × (r ≤ length (now (bytes .entry))) ⌝ }
+    ensures { λ r. ⌜ (at < r .next) × (r .next ≤ length (now (bytes .entry))) ⌝ }
 {
     let end = bytes.len();
+    let none = Reported {
+        next: end,
+        written: true,
+    };
     if end - at < COUNT_BYTES {
-        return end;
+        return none;
     }
     let count = files::word_at(bytes, at) as usize;
     if MOST_RECORD < count {
-        return end;
+        return none;
     }
     if end - at - COUNT_BYTES < WORD_BYTES * count {
-        return end;
+        return none;
     }
     let mut rule = [0u16; MOST_RECORD];
     files::take_words(&mut rule, bytes, at + COUNT_BYTES, count);
-    report(&rule[..count]);
-    at + COUNT_BYTES + WORD_BYTES * count
+    let written = report(&rule[..count]);
+    Reported {
+        next: at + COUNT_BYTES + WORD_BYTES * count,
+        written,
+    }
 }
 
-fn report_all(bytes: &[u8]) {
+fn report_all(bytes: &[u8]) -> bool {
     let mut at = 0;
     while at < bytes.len() {
-        at = record(bytes, at);
+        let reported = record(bytes, at);
+        if !reported.written {
+            return false;
+        }
+        at = reported.next;
     }
+    true
 }
 
 fn main() {
     let mut input = [0u8; MOST_INPUT];
-    let arrived = io::read_full(STDIN_FILENO, &mut input);
-    report_all(&input[..arrived]);
+    let Input::Arrived(arrived) = desk::read_file(&mut input, STDIN_FILENO) else {
+        desk::tell_not_read();
+        return;
+    };
+    if !report_all(&input[..arrived]) {
+        desk::tell_not_written();
+    }
 }

@@ -58,7 +58,12 @@ words-end o goal ws at n i e h g =
     let l : length ws ≤ i = omega arith in
     subst (λ (x : List ℕ). sets o (at + 5 * i) (listed n i x) ≡ goal) (drop-of-length-le ws l) g
 
--- a number's digits are the fewest that hold it, and no other number of digits is the fewest
+listed-length : (n i : ℕ) (ws : List ℕ) → length (listed n i ws) ≡ 5 * length ws
+unfolding listed
+listed-length n i [] = refl
+listed-length n i (w ∷ ws) = omega (arith, listed-length n (i + 1) ws)
+
+-- a number's digits: the definition's are the fewest that hold it, as the libraries' are, and no two numbers of digits are the fewest
 one-more : (n k : ℕ) (b : Bool) → ltb (suc n) (10 ^ k) ≡ b → Fewest 10 1 n k → Fewest 10 1 (suc n) (cond b k (suc k))
 one-more n k true e f = (f .0, ltb-true (suc n) (10 ^ k) e, λ h. omega (arith, f .2 h))
 one-more n k false e f =
@@ -83,7 +88,10 @@ spelled n k t m c f e =
     let q : k ≡ placesOf n = le-antisymm (no-more n (placesOf n) k (g .0) (g .1) f) (no-more n k (placesOf n) (f .0) (f .1) g) in
     record { few = no-more n 20 k (omega arith) (omega arith) f; counts = c; is = e ∙ ap (λ j. digits 10 j n) q }
 
--- a space and a number: the digits are copied to the front of what is behind the space
+spelled-length : {n k : ℕ} {t : List ℕ} → Spelled n k t → length (decimalText n) ≡ k
+spelled-length x = ap length (sym (x .is)) ∙ sym (x .counts .1)
+
+-- a space and a number: the digits are copied to the front of what lies behind the space
 copied : (l ds : List ℕ) (at : ℕ) {o : List ℕ} → at + length ds ≤ length l
     → o ≡ take (length ds) ds ++ drop (length ds) (take (length l - at) (drop at l)) → putMid at (length l - at) l o ≡ sets l at ds
 copied l ds at h e =
@@ -95,21 +103,12 @@ pub number-stored : (l ds : List ℕ) (at : ℕ) {o : List ℕ} → at + 1 + len
     → putMid (at + 1) (length (set l at space) - (at + 1)) (set l at space) o ≡ sets l at (space ∷ ds)
 number-stored l ds at h e = copied (set l at space) ds (at + 1) (simp length-set (omega arith)) e ∙ simp towards-suc
 
-listed-length : (n i : ℕ) (ws : List ℕ) → length (listed n i ws) ≡ 5 * length ws
-unfolding listed
-listed-length n i [] = refl
-listed-length n i (w ∷ ws) = omega (arith, listed-length n (i + 1) ws)
-
 -- a line: its start is stored, and its end behind it
 line-length : (start : List ℕ) → length (line start) ≡ length start + 1
 line-length start = length-append start (newline ∷ [])
 
 line-stored : (out start : List ℕ) {o : List ℕ} {n : ℕ} → o ≡ sets out 0 start → n ≡ length start → set o n newline ≡ sets out 0 (line start)
 line-stored out start e k = store-last out 0 start newline e (omega arith)
-
--- a number's length is that of its digits
-spelled-length : {n k : ℕ} {t : List ℕ} → Spelled n k t → length (decimalText n) ≡ k
-spelled-length x = ap length (sym (x .is)) ∙ sym (x .counts .1)
 
 -- the reply of a refusal
 module _ (e p : ℕ) (out : List ℕ) {k j : ℕ} {s t : List ℕ} (x : Spelled e k s) (y : Spelled p j t) where

@@ -50,14 +50,14 @@ slice-aggregate-report c = simp length-take (omega arith)
 report-requires : tie.Need-report-requires
 report-requires c κs = search needs
 
-add-result : tie.Need-add-result
-add-result c = search needs
+add-t11 : tie.Need-add-t11
+add-t11 c = search needs
 
-mul-result : tie.Need-mul-result
-mul-result c = search needs
+mul-t8 : tie.Need-mul-t8
+mul-t8 c = search needs
 
-add-result-2 : tie.Need-add-result-2
-add-result-2 c = search needs
+add-t12 : tie.Need-add-t12
+add-t12 c = search needs
 
 returns-4 : tie.Need-returns-4
 returns-4 c = search needs
@@ -81,7 +81,7 @@ record-spec =
     array-share-prefix-rule
     slice-aggregate-report
     report-requires
-    add-result
-    mul-result
-    add-result-2
+    add-t11
+    mul-t8
+    add-t12
     returns-4)

@@ -1,9 +1,12 @@
--- `corpus::print_words` stays within its buffer. Assumes nothing.
+-- `corpus::print_short` stays within its buffer. Assumes nothing.
 use native.Mathlib.Omega.{arith}
 use lib.ListN.{length-take}
 use borrow.Author.Needs.{needs}
-use Rattle.corpus.proofs.print_words.Statement.{statement}
-use Rattle.corpus.proofs.print_words.Tie as tie
+use Rattle.corpus.proofs.print_short.Statement.{statement}
+use Rattle.corpus.proofs.print_short.Tie as tie
+
+returns : tie.Need-returns
+returns c = search needs
 
 slice-aggregate-put-words : tie.Need-slice-aggregate-put-words
 slice-aggregate-put-words c = search needs
@@ -23,17 +26,18 @@ slice-aggregate-write-all c = simp length-take (omega arith)
 write-all-requires : tie.Need-write-all-requires
 write-all-requires c κs = search needs
 
-returns : tie.Need-returns
-returns c = search needs
+returns-2 : tie.Need-returns-2
+returns-2 c = search needs
 
-pub print-words-spec : {M : Type 1} → statement M
-print-words-spec =
+pub print-short-spec : {M : Type 1} → statement M
+print-short-spec =
     tie.close
     (tie.spec
+    returns
     slice-aggregate-put-words
     put-words-requires
     mul-size
     array-share-prefix-text
     slice-aggregate-write-all
     write-all-requires
-    returns)
+    returns-2)
