@@ -75,6 +75,7 @@ pub fn read_file(buffer: &mut [u8], file: i32) -> Input
     Input::Arrived(arrived)
 }
 
+// The two lines for standard error. Where that fails too, nothing more can be done.
 pub fn tell_not_read() {
     io::write_all(STDERR_FILENO, b"peatnickel: the input could not be read\n");
 }
