@@ -1,21 +1,19 @@
 -- The ways out of translating a file and of answering, and why what is counted lies within the buffers: no call counts more than its output holds.
 -- Assumes nothing.
-use Prim.Native.Nat.{ℕ, _+_, _*_, _<_, _≤_}
+use Prim.Native.Nat.{ℕ, _<_, _≤_}
 use mathlib.Core.Path.{_≡_, refl, sym, ap, _∙_, subst}
-use mathlib.Core.Bool.{Bool, true, false, cond}
-use mathlib.Core.List.{List, _++_}
+use mathlib.Core.List.{List}
 use native.Mathlib.Omega.{arith}
-use lib.Dec.{ltb, eqb}
-use lib.ListN.{length, take, drop, length-append, length-drop}
+use lib.ListN.{length, take, length-append, length-drop}
 use lib.Seq.{length-take-le}
-use borrow.Author.Tests.{lt-ltb, le-ltb, ltb-false}
-use Rattle.language.specs.Read.{noPlace, Reading, accepted, refused, read}
-use Rattle.language.specs.Calls.{Reply, success, refusal, Outcome, refuses, replyOf, told, filled, written}
+use borrow.Author.Tests.{lt-ltb, le-ltb}
+use Rattle.language.specs.Read.{noPlace, read}
+use Rattle.language.specs.Calls.{Reply, success, refusal, Outcome, replyOf, told, filled, written}
 use Rattle.language.specs.declared.Answer.{Answer}
 use Rattle.language.specs.declared.Answer.the-variants.{Count, Refusal}
 use Rattle.listing.specs.Text.{replyText}
-use Rattle.files.specs.Files.{most, version, headerBytes, wordAt, marked, unpacking}
-use Rattle.files.specs.declared.Form.{Form}
+use Rattle.files.specs.Files.{unpacking}
+use Rattle.files.proofs.Shapes.{Shaped, stays, fills, filled-shaped, written-shaped, unpacking-shaped}
 use Rattle.files.specs.declared.Form.the-variants.{Rules}
 use Rattle.desk.specs.Input.{arrivedOf}
 use Rattle.desk.specs.declared.Input.{Input}
@@ -27,40 +25,9 @@ record Sound (m : ℕ) (x : Outcome ℕ) : Type 0 where
   within : Within m (x .reply)
   kept : length (x .output) ≡ m
 
-sound-refusal : (e p : ℕ) (out : List ℕ) → Sound (length out) (refuses e p out)
-sound-refusal e p out = record { within = refusing; kept = refl }
-
-sound-cond : {m : ℕ} (b : Bool) {x y : Outcome ℕ} → Sound m x → Sound m y → Sound m (cond b x y)
-sound-cond true h k = h
-sound-cond false h k = k
-
-sound-filled : (ws out : List ℕ) → Sound (length out) (filled ws out)
-unfolding filled
-sound-filled ws out = go (ltb (length out) (length ws)) refl
-  where
-    go : (b : Bool) → ltb (length out) (length ws) ≡ b
-        → Sound (length out) (cond b (refuses 9 noPlace out) (record { reply = success (length ws); output = ws ++ drop (length ws) out }))
-    go true e = sound-refusal 9 noPlace out
-    go false e =
-        let l : length ws ≤ length out = ltb-false (length out) (length ws) e in
-        record { within = counting l; kept = simp (length-append, length-drop) (omega arith) }
-
-sound-written : (g : Reading) (out : List ℕ) → Sound (length out) (written g out)
-unfolding written
-sound-written (accepted t) out = sound-filled _ out
-sound-written (refused e p) out = sound-refusal e p out
-
-sound-unpacking : (f : Form) (bs out : List ℕ) → Sound (length out) (unpacking f bs out)
-unfolding unpacking
-sound-unpacking f bs out =
-    sound-cond (marked f bs)
-    (sound-cond (eqb (wordAt bs 3) version)
-    (sound-cond (eqb (length bs) (headerBytes + 2 * wordAt bs 5))
-    (sound-cond (eqb (wordAt bs 5) 0) (sound-refusal 1 noPlace out)
-    (sound-cond (ltb (most f) (wordAt bs 5)) (sound-refusal 2 noPlace out) (sound-filled _ out)))
-    (sound-refusal 12 noPlace out))
-    (sound-refusal 11 noPlace out))
-    (sound-refusal 10 noPlace out)
+sound : {out : List ℕ} {x : Outcome ℕ} → Shaped out x → Sound (length out) x
+sound (stays e p) = record { within = refusing; kept = refl }
+sound (fills ws l) = record { within = counting l; kept = simp (length-append, length-drop) (omega arith) }
 
 -- what an outcome tells, of the answer and of the output
 told-within : {m : ℕ} (a : Answer) {o : List ℕ} {x : Outcome ℕ} → told a o ≡ x → Sound m x → Within m (replyOf a)
@@ -91,17 +58,17 @@ module _ (bs out : List ℕ) where
     pub t-inside : {n : ℕ} → a ≡ Count n → n ≤ length ws
     unfolding replyOf
     t-inside {n} k =
-        let w : Within (length zeros) (replyOf a) = told-within a u (sound-unpacking Rules bs zeros) in
+        let w : Within (length zeros) (replyOf a) = told-within a u (sound (unpacking-shaped Rules bs zeros)) in
         let v : n ≤ length zeros = count-within (subst (λ x. Within (length zeros) (replyOf x)) k w) in
-        rw (told-kept a u (sound-unpacking Rules bs zeros)) v
+        rw (told-kept a u (sound (unpacking-shaped Rules bs zeros))) v
 
     pub t-written : {n : ℕ} (b : Answer) {o : List ℕ} → a ≡ Count n → told b o ≡ written (read (take n ws)) out
         → Translates bs out b o
     unfolding replyOf onward
     t-written {n} b k w = record {
       is = w ∙ sym (through ∙ ap (λ x. onward (replyOf x) ws out) k);
-      within = told-within b w (sound-written (read (take n ws)) out);
-      kept = told-kept b w (sound-written (read (take n ws)) out);
+      within = told-within b w (sound (written-shaped (read (take n ws)) out));
+      kept = told-kept b w (sound (written-shaped (read (take n ws)) out));
     }
 
 -- the count of an answer, and none of a refusal
@@ -137,7 +104,7 @@ a-shown bs text a {r} {o} c t e =
 
 -- the part of the text that is printed
 pub p-inside : {a : Answer} {r : ℕ} {o : List ℕ} (ws text : List ℕ) → Counts a r → told a o ≡ filled ws text → r ≤ length o
-p-inside {a} ws text c e = rw (told-kept a e (sound-filled ws text), c .is) (within-most (told-within a e (sound-filled ws text)))
+p-inside {a} ws text c e = rw (told-kept a e (sound (filled-shaped ws text)), c .is) (within-most (told-within a e (sound (filled-shaped ws text))))
 
 -- the part of the input that arrived
 pub i-inside : {i : Input} {n m : ℕ} → i ≡ Arrived n → arrivedOf i ≤ m → n ≤ m

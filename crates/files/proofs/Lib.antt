@@ -1,3 +1,4 @@
 pub mod Stores
 pub mod Calls
+pub mod Shapes
 pub mod Promises

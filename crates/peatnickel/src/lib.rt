@@ -6,7 +6,7 @@ use reading::Checked;
 ghost use mathlib.Core.Path.{_≡_};
 ghost use Prim.Native.Nat.{_≤_};
 ghost use Rattle.language.specs.Limits.{mostWords};
-ghost use Rattle.peatnickel.specs.Numbers.{Small, answerOf, checkedOf, formOf, refusalNumber};
+ghost use Rattle.peatnickel.specs.Numbers.{Small, answerOf, formOf, refusalNumber};
 ghost use Rattle.peatnickel.specs.Calls.{Asked, Means};
 
 // Where the refusals start, and what each place adds to a refusal's reply. Below are the counts.

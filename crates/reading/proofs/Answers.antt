@@ -15,7 +15,7 @@ use borrow.Author.Tests.{lt-ltb, le-ltb, eq-eqb, ne-eqb, ltb-false}
 use Rattle.language.specs.Term.{Term}
 use Rattle.language.specs.Limits.{deepest, mostWords}
 use Rattle.language.specs.Read.{noPlace, Got, found, fault, then, term, Reading, accepted, refused, reading, closed, ended, read}
-use Rattle.language.specs.Calls.{Reply, success, replyOf, checked, measured}
+use Rattle.language.specs.Calls.{success, replyOf, checked, measured}
 use Rattle.sizes.specs.Lengths.{passingLength, imageLength}
 use Rattle.sizes.proofs.Lengths.{of-image}
 use Rattle.reading.specs.Steps.{imageWords, stepOf, termStep, wordsOf, standsAt, endedAt}

@@ -10,28 +10,57 @@ use Rattle.language.specs.Limits.{Ranged}
 use Rattle.language.specs.Dead.{Live}
 use Rattle.language.specs.Image.{image}
 use Rattle.language.specs.Read.{noPlace, read, accepted, refused}
+use Rattle.language.specs.Calls.{refusal}
 use Rattle.language.specs.declared.Answer.{Answer}
 use Rattle.language.specs.declared.Answer.the-variants.{Count, Refusal}
 use Rattle.meaning.specs.Promises.{Comes, FromRule}
-use Rattle.reading.specs.declared.Checked.the-variants.{Success}
-use Rattle.rules.specs.Contracts.{Call, check, measure, write, Result, Allows}
+use Rattle.reading.specs.declared.Checked.the-variants.{Success, Refusal as unchecked}
+use Rattle.files.specs.Files.{packing, unpacking}
+use Rattle.rules.specs.Contracts.{Call, check, measure, write, pack, unpack, Result, Allows}
 
 -- "prove that two outcomes allowed by it are equal": of every public call
 abbrev pub Determined : Type 0
 Determined = (c : Call) (x y : Result c) → Allows c x → Allows c y → x ≡ y
 
--- what comes of writing the words ws into the output out: the answer, and what the output then holds.
--- refusing: the refusal of the checks in order, with the place of the word tested; "leaves all that was lent unchanged". no-room: "the lent output is
--- shorter than what is to be written". writing: "the image fills the front of the output and every later word is unchanged".
-pub data Replied (ws out : List ℕ) : Answer → List ℕ → Type 0 where
-  refusing : {e p : ℕ} → read ws ≡ refused e p → Replied ws out (Refusal e p) out
-  no-room : {t : Term} → read ws ≡ accepted t → length out < length (words images (image t)) → Replied ws out (Refusal 9 noPlace) out
-  writing : {t : Term} {n : ℕ} {o : List ℕ} → read ws ≡ accepted t → n ≡ length (words images (image t)) → n ≤ length out
-      → o ≡ words images (image t) ++ drop n out → Replied ws out (Count n) o
+-- the result r of a call is the refusal with the number e and the place p
+abbrev pub Refuses : (c : Call) → Result c → ℕ → ℕ → Type 0
+Refuses (check ws) r e p = r ≡ unchecked e p
+Refuses (measure ws) r e p = r ≡ Refusal e p
+Refuses (write ws out) r e p = r .0 ≡ Refusal e p
+Refuses (pack f ws out) r e p = r .0 ≡ Refusal e p
+Refuses (unpack f bs out) r e p = r .0 ≡ Refusal e p
 
--- demand 1: every sequence of words and every lent output gets its reply, an image or a numbered refusal with its place, and a refusal changes nothing
+-- what a call with the result r was lent to write into is as it was; nothing of the kind is lent to the checking and to the measuring call
+abbrev pub Unchanged : (c : Call) → Result c → Type 0
+Unchanged (check ws) r = Unit {0}
+Unchanged (measure ws) r = Unit {0}
+Unchanged (write ws out) r = r .1 ≡ out
+Unchanged (pack f ws out) r = r .1 ≡ out
+Unchanged (unpack f bs out) r = r .1 ≡ out
+
+-- why the words ws are not written into the output out: the refusal of the checks in order, with the place of the word tested; "Then, in the writing
+-- call only, 9.": "the lent output is shorter than what is to be written"
+pub data Unwritten (ws out : List ℕ) : ℕ → ℕ → Type 0 where
+  refusing : {e p : ℕ} → read ws ≡ refused e p → Unwritten ws out e p
+  no-room : {t : Term} → read ws ≡ accepted t → length out < length (words images (image t)) → Unwritten ws out 9 noPlace
+
+-- "the first fault met is the reply": the refusal that a call's tests in order come to
+abbrev pub Faulted : Call → ℕ → ℕ → Type 0
+Faulted (check ws) e p = read ws ≡ refused e p
+Faulted (measure ws) e p = read ws ≡ refused e p
+Faulted (write ws out) e p = Unwritten ws out e p
+Faulted (pack f ws out) e p = packing f ws out .reply ≡ refusal e p
+Faulted (unpack f bs out) e p = unpacking f bs out .reply ≡ refusal e p
+
+-- demand 1: every call, whatever words or bytes and whatever output are lent to it, gets a reply; that is the refusal e at the place p exactly when the
+-- call's tests in order come to it; and a refusal "leaves all that was lent unchanged"
+pub record Replies (c : Call) : Type 0 where
+  pub replied : (r : Result c) × Allows c r
+  pub faulted : (r : Result c) (e p : ℕ) → Allows c r → Refuses c r e p ↔ Faulted c e p
+  pub unchanged : (r : Result c) (e p : ℕ) → Allows c r → Refuses c r e p → Unchanged c r
+
 abbrev pub Demand1 : Type 0
-Demand1 = (ws out o : List ℕ) (a : Answer) → Allows (write ws out) (a, o) → Replied ws out a o
+Demand1 = (c : Call) → Replies c
 
 -- demand 2: an accepted rule's image is written word by word where it fits, and 9 is given only where it is longer than the output
 pub record Written (t : Term) (out o : List ℕ) (a : Answer) : Type 0 where
