@@ -1,6 +1,6 @@
 /*
- * One call, on everything it is to be measured on, and nothing else: the number of instructions of a run less that of a run
- * with the call `n`, which does all but the call, is the call's cost. See face/cost.
+ * One call, on everything it is to be measured on, and nothing else: the number of instructions of a run less that of
+ * a run with the call `n`, which does all but the call, is the call's cost. See face/cost.
  *
  *   cost SIDE CALL corpus FILE     the call on each accepted rule of a corpus
  *   cost SIDE CALL SHAPE WORDS     the call on one rule of a shape
@@ -23,11 +23,12 @@
 #include "peatnickel.h"
 #include "shapes.h"
 
-enum { IMAGE_MOST = 28672, RULE_MOST = 4096, RULES_MOST = 4096, STACK_BYTES = 1 << 22 };
+/* The rules kept of a corpus, which today has 2,512; and the stack lent to a call, far more than any of them uses. */
+enum { RULES_MOST = 4096, STACK_BYTES = 1 << 22 };
 
 typedef uint32_t (*call)(struct word_list rule);
 
-static uint16_t out[IMAGE_MOST];
+static uint16_t out[PEATNICKEL_IMAGE_WORDS];
 
 static uint32_t none(struct word_list rule)
 {
@@ -47,7 +48,7 @@ static uint32_t our_measure(struct word_list rule)
 
 static uint32_t our_write(struct word_list rule)
 {
-    return peatnickel_write(out, IMAGE_MOST, rule.words, rule.count);
+    return peatnickel_write(out, PEATNICKEL_IMAGE_WORDS, rule.words, rule.count);
 }
 
 /* The second translator's reply, as a number of the face. */
@@ -72,7 +73,7 @@ static uint32_t peer_measure(struct word_list rule)
 
 static uint32_t peer_write(struct word_list rule)
 {
-    struct reply reply = write_image(rule, out, IMAGE_MOST);
+    struct reply reply = write_image(rule, out, PEATNICKEL_IMAGE_WORDS);
 
     return number(reply.refusal, reply.count);
 }
@@ -120,8 +121,8 @@ static void read_corpus(const char *path, bool accepted_only)
 
 static struct word_list shape_words(const struct shape *shape, size_t words)
 {
-    static uint16_t room[RULE_MOST];
-    struct word_sink sink = sink_into(room, RULE_MOST);
+    static uint16_t room[PEATNICKEL_RULE_WORDS];
+    struct word_sink sink = sink_into(room, PEATNICKEL_RULE_WORDS);
 
     shape->put(&sink, words);
     return sink_words(&sink);
@@ -129,7 +130,7 @@ static struct word_list shape_words(const struct shape *shape, size_t words)
 
 static bool same(struct word_list rule)
 {
-    static uint16_t theirs[IMAGE_MOST];
+    static uint16_t theirs[PEATNICKEL_IMAGE_WORDS];
     uint32_t count = peer_write(rule);
 
     memcpy(theirs, out, sizeof out);
@@ -145,13 +146,13 @@ static int compare_all(const char *path)
     for (size_t i = 0; i < rule_count; i++)
         wrong += !same(rules[i]);
     for (size_t i = 0; i < GROWN_SHAPES; i++)
-        for (size_t words = 64; words <= RULE_MOST; words *= 8) {
+        for (size_t words = 64; words <= PEATNICKEL_RULE_WORDS; words *= 8) {
             struct word_list rule = shape_words(&grown_shapes[i], words);
 
             wrong += !same(rule) || rule.count != words || our_check(rule) != 0;
         }
     for (size_t i = 0; i < DEEP_SHAPES; i++) {
-        struct word_list rule = shape_words(&deep_shapes[i], RULE_MOST);
+        struct word_list rule = shape_words(&deep_shapes[i], PEATNICKEL_RULE_WORDS);
 
         wrong += !same(rule) || our_check(rule) != 0;
     }
@@ -174,8 +175,8 @@ static int count_words(const char *path)
 }
 
 /*
- * The stack: a painted one is lent to the call, and as soon as it has returned, still on that stack, the deepest byte that lost
- * its paint is looked for.
+ * The stack: a painted one is lent to the call, and as soon as it has returned, still on that stack, the deepest byte
+ * that lost its paint is looked for.
  */
 static unsigned char stack[STACK_BYTES];
 static unsigned char stack_paint;
@@ -219,22 +220,26 @@ static size_t deepest(call function, struct word_list rule)
     return one > other ? one : other;
 }
 
-static uint8_t file[7 + 2 * IMAGE_MOST];
+/* The file that was packed last, which is unpacked next. */
+static uint8_t file[PEATNICKEL_RULE_FILE_BYTES];
+static uint32_t file_bytes;
 
 static uint32_t our_pack(struct word_list rule)
 {
-    return peatnickel_pack(file, sizeof file, PEATNICKEL_RULES, rule.words, rule.count);
+    file_bytes = peatnickel_pack(file, sizeof file, PEATNICKEL_RULES, rule.words, rule.count);
+    return file_bytes;
 }
 
 static uint32_t our_unpack(struct word_list rule)
 {
-    return peatnickel_unpack(out, IMAGE_MOST, PEATNICKEL_RULES, file, 7 + 2 * rule.count);
+    (void)rule;
+    return peatnickel_unpack(out, PEATNICKEL_IMAGE_WORDS, PEATNICKEL_RULES, file, file_bytes);
 }
 
 static int show_stack(void)
 {
     for (size_t i = 0; i < DEEP_SHAPES; i++) {
-        struct word_list rule = shape_words(&deep_shapes[i], RULE_MOST);
+        struct word_list rule = shape_words(&deep_shapes[i], PEATNICKEL_RULE_WORDS);
         const call calls[] = { our_check, our_measure, our_write, our_pack, our_unpack, peer_write };
         size_t nothing = deepest(none, rule);
 

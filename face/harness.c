@@ -1,45 +1,35 @@
 /*
- * Calls every function of peatnickel.h as a program in C does: on the paper's worked rules A to O, on every refusal and its
- * places, on outputs one element short, and at the limits. Each call is made on a painted output, and everything that the
- * reply does not name must keep its paint. The cases and the images beside the paper's own come from the second translator,
- * peer/.
+ * Calls every function of peatnickel.h as a program in C does: on the paper's worked rules A to O, on every refusal and
+ * its places, on outputs one element short, and at the limits. Each call is made on a painted output, and everything
+ * that the reply does not name must keep its paint. The cases and the images beside the paper's own come from the
+ * second translator, peer/. Outputs that overlap an input are face/overlap.c's.
  */
 #include <stdbool.h>
 #include <stdint.h>
-#include <stdio.h>
-#include <stdlib.h>
 #include <string.h>
 
 #include "../peer/generators/cases.h"
 #include "../peer/generators/gen_record.h"
 #include "../peer/translator/image.h"
+#include "expect.h"
 #include "peatnickel.h"
 
 enum {
-    RULE_MOST = 4096,
-    IMAGE_MOST = 28672,
-    HEADER = 7,
-    ROOM = IMAGE_MOST + 8,
+    HEADER = 7, /* bytes of a file before its words */
+    SPARE = 8,  /* words more than any reply fills */
+    ROOM = PEATNICKEL_IMAGE_WORDS + SPARE,
     FILE_ROOM = HEADER + 2 * ROOM,
     LAST_REFUSAL = PEATNICKEL_DEAD_ARM,
     WRONG_WORD = 0xFFFF /* neither a head nor a second word */
 };
 
-static unsigned checks;
-static unsigned failures;
+_Static_assert(PEATNICKEL_RULE_FILE_BYTES == HEADER + 2 * PEATNICKEL_RULE_WORDS, "the longest file of rules");
+_Static_assert(PEATNICKEL_IMAGE_FILE_BYTES == HEADER + 2 * PEATNICKEL_IMAGE_WORDS, "the longest file of images");
+
 static bool given[LAST_REFUSAL + 1]; /* the refusals that were seen */
 
 static uint16_t words_out[ROOM];
 static uint8_t bytes_out[FILE_ROOM];
-
-static void expect(bool holds, const char *what, const char *name)
-{
-    checks++;
-    if (holds)
-        return;
-    failures++;
-    printf("wrong: %s: %s\n", name, what);
-}
 
 /* A reply is what it has to be; a refusal is noted as seen. */
 static void expect_reply(uint32_t reply, uint32_t expected, const char *what, const char *name)
@@ -111,8 +101,8 @@ static bool front_is(struct word_list expected)
 /* The image, from the second translator. */
 static struct word_list peer_image(struct word_list rule)
 {
-    static uint16_t words[IMAGE_MOST];
-    struct reply reply = write_image(rule, words, IMAGE_MOST);
+    static uint16_t words[PEATNICKEL_IMAGE_WORDS];
+    struct reply reply = write_image(rule, words, PEATNICKEL_IMAGE_WORDS);
 
     return (struct word_list){ words, reply.count };
 }
@@ -148,7 +138,7 @@ static void try_refused(const char *name, struct word_list rule, uint32_t expect
     expect(painted_from(0, 0), "output of a refusal is untouched", name);
 }
 
-/* Packs the words and unpacks the file, with just room and with one element too few; the bytes are given where known. */
+/* Packs the words and unpacks the file, with just room and one element too few; the bytes are given where known. */
 static void try_file(const char *name, uint32_t form, struct word_list words, const uint8_t *bytes)
 {
     static uint8_t file[FILE_ROOM];
@@ -180,7 +170,8 @@ static void try_bad_file(const char *name, uint32_t form, const uint8_t *bytes, 
 static void try_bad_pack(const char *name, uint32_t form, struct word_list words, uint32_t number)
 {
     paint();
-    expect_reply(peatnickel_pack(bytes_out, FILE_ROOM, form, words.words, words.count), placeless(number), "pack", name);
+    expect_reply(peatnickel_pack(bytes_out, FILE_ROOM, form, words.words, words.count), placeless(number), "pack",
+                 name);
     expect(painted_from(0, 0), "output of a refusal is untouched", name);
 }
 
@@ -208,10 +199,11 @@ static void worked_cases(void)
     try_file("case B, the paper's file", PEATNICKEL_RULES, accepted_cases[1].rule, case_b_file.bytes);
     refused_rules(refused_cases, REFUSED_CASES);
     paint();
-    expect_reply(peatnickel_write(words_out, N_SHORT_OUTPUT, accepted_cases[0].rule.words, 2), placeless(PEATNICKEL_NO_ROOM),
-                 "7 words", "case N");
+    expect_reply(peatnickel_write(words_out, N_SHORT_OUTPUT, accepted_cases[0].rule.words, 2),
+                 placeless(PEATNICKEL_NO_ROOM), "7 words", "case N");
     expect(painted_from(0, 0), "output untouched", "case N");
-    expect_reply(peatnickel_write(words_out, N_LONG_ENOUGH_OUTPUT, accepted_cases[0].rule.words, 2), 8, "8 words", "case N");
+    expect_reply(peatnickel_write(words_out, N_LONG_ENOUGH_OUTPUT, accepted_cases[0].rule.words, 2), 8, "8 words",
+                 "case N");
 }
 
 /* Case O: 63 functions are accepted, 64 are too deep. */
@@ -230,30 +222,31 @@ static void case_o(void)
 /* A rule of 4,096 words is read, and its last places are told; one of 4,097 is not. */
 static void longest_rules(void)
 {
-    static uint16_t words[RULE_MOST + 1];
-    struct word_sink sink = sink_into(words, RULE_MOST + 1);
+    static uint16_t words[PEATNICKEL_RULE_WORDS + 1];
+    struct word_sink sink = sink_into(words, PEATNICKEL_RULE_WORDS + 1);
 
-    put_filler(&sink, RULE_MOST);
+    put_filler(&sink, PEATNICKEL_RULE_WORDS);
     try_accepted("4,096 words of one value", sink_words(&sink), peer_image(sink_words(&sink)));
-    sink = sink_into(words, RULE_MOST + 1);
+    sink = sink_into(words, PEATNICKEL_RULE_WORDS + 1);
     put_words(&sink, (struct word_list)WORD_LIST(0x0401, 0x0201, 0x0100));
-    put_filler(&sink, RULE_MOST - sink.count);
+    put_filler(&sink, PEATNICKEL_RULE_WORDS - sink.count);
     try_accepted("4,096 words of a call", sink_words(&sink), peer_image(sink_words(&sink)));
-    sink = sink_into(words, RULE_MOST + 1);
-    put_filler(&sink, RULE_MOST + 1);
+    sink = sink_into(words, PEATNICKEL_RULE_WORDS + 1);
+    put_filler(&sink, PEATNICKEL_RULE_WORDS + 1);
     try_refused("4,097 words", sink_words(&sink), placeless(PEATNICKEL_TOO_MANY_WORDS));
-    sink.count = RULE_MOST;
-    try_refused("4,096 words and one missing", sink_words(&sink), refusal(PEATNICKEL_NONE_LEFT, RULE_MOST));
-    sink = sink_into(words, RULE_MOST + 1);
-    put_filler(&sink, RULE_MOST - 1);
+    sink.count = PEATNICKEL_RULE_WORDS;
+    try_refused("4,096 words and one missing", sink_words(&sink), refusal(PEATNICKEL_NONE_LEFT, PEATNICKEL_RULE_WORDS));
+    sink = sink_into(words, PEATNICKEL_RULE_WORDS + 1);
+    put_filler(&sink, PEATNICKEL_RULE_WORDS - 1);
     put_words(&sink, (struct word_list)WORD_LIST(WRONG_WORD));
-    try_refused("4,095 words and one left over", sink_words(&sink), refusal(PEATNICKEL_LEFT_OVER, RULE_MOST - 1));
+    try_refused("4,095 words and one left over", sink_words(&sink),
+                refusal(PEATNICKEL_LEFT_OVER, PEATNICKEL_RULE_WORDS - 1));
 }
 
 /* A refusal's parts are read from the reply; a count is none. */
 static void replies(void)
 {
-    const size_t places[] = { 0, 1, 255, 256, RULE_MOST - 1, RULE_MOST };
+    const size_t places[] = { 0, 1, 255, 256, PEATNICKEL_RULE_WORDS - 1, PEATNICKEL_RULE_WORDS };
 
     for (uint32_t number = 0; number <= LAST_REFUSAL; number++)
         for (size_t i = 0; i < sizeof places / sizeof places[0]; i++) {
@@ -269,12 +262,12 @@ static void replies(void)
 }
 
 /*
- * The accepted rules with one word wrong, cut, and with a word more. A word that is wrong wherever it stands is the word tested;
- * whether as a head or as a second word, and so the number, the second translator says.
+ * The accepted rules with one word wrong, cut, and with a word more. A word that is wrong wherever it stands is the
+ * word tested; whether as a head or as a second word, and so the number, the second translator says.
  */
 static void spoiled_cases(void)
 {
-    static uint16_t words[RULE_MOST];
+    static uint16_t words[PEATNICKEL_RULE_WORDS];
 
     for (size_t i = 0; i < ACCEPTED_CASES; i++) {
         const char *name = accepted_cases[i].name;
@@ -307,17 +300,17 @@ static void put_file_header(uint8_t *bytes, char third, unsigned version, size_t
 /* Files at the limit of their form, and one word past it. */
 static void longest_files(void)
 {
-    static uint16_t words[IMAGE_MOST + 1];
-    static uint8_t file[HEADER + 2 * (IMAGE_MOST + 1)];
+    static uint16_t words[PEATNICKEL_IMAGE_WORDS + 1];
+    static uint8_t file[HEADER + 2 * (PEATNICKEL_IMAGE_WORDS + 1)];
     const struct {
         const char *name;
         uint32_t form;
         char third;
         size_t most;
-    } forms[] = { { "longest file of rules", PEATNICKEL_RULES, 'S', RULE_MOST },
-                  { "longest file of images", PEATNICKEL_IMAGES, 'I', IMAGE_MOST } };
+    } forms[] = { { "longest file of rules", PEATNICKEL_RULES, 'S', PEATNICKEL_RULE_WORDS },
+                  { "longest file of images", PEATNICKEL_IMAGES, 'I', PEATNICKEL_IMAGE_WORDS } };
 
-    for (size_t i = 0; i <= IMAGE_MOST; i++)
+    for (size_t i = 0; i <= PEATNICKEL_IMAGE_WORDS; i++)
         words[i] = (uint16_t)(i * 31 + 5);
     for (size_t i = 0; i < 2; i++) {
         size_t past = forms[i].most + 1;
@@ -349,10 +342,10 @@ static void bad_files(void)
     try_bad_file("count 0", PEATNICKEL_RULES, file, HEADER, PEATNICKEL_NO_WORDS);
     put_file_header(file, 'S', 1, 1);
     try_bad_file("a byte short", PEATNICKEL_RULES, file, sizeof file - 1, PEATNICKEL_WRONG_LENGTH);
-    try_bad_file("form 2", 2, file, sizeof file, PEATNICKEL_NO_FORM);
-    try_bad_file("form 4,294,967,295", UINT32_MAX, NULL, 0, PEATNICKEL_NO_FORM);
-    try_bad_pack("form 2", 2, accepted_cases[0].rule, PEATNICKEL_NO_FORM);
-    try_bad_pack("form 65,536", 65536, accepted_cases[0].rule, PEATNICKEL_NO_FORM);
+    try_bad_file("form 2", 2, file, sizeof file, PEATNICKEL_WRONG_USE);
+    try_bad_file("form 4,294,967,295", UINT32_MAX, NULL, 0, PEATNICKEL_WRONG_USE);
+    try_bad_pack("form 2", 2, accepted_cases[0].rule, PEATNICKEL_WRONG_USE);
+    try_bad_pack("form 65,536", 65536, accepted_cases[0].rule, PEATNICKEL_WRONG_USE);
     try_bad_pack("no words of rules", PEATNICKEL_RULES, (struct word_list){ NULL, 0 }, PEATNICKEL_NO_WORDS);
     try_bad_pack("no words of images", PEATNICKEL_IMAGES, (struct word_list){ NULL, 0 }, PEATNICKEL_NO_WORDS);
 }
@@ -370,6 +363,5 @@ int main(void)
     bad_files();
     for (unsigned number = 0; number <= LAST_REFUSAL; number++)
         expect(given[number] == is_number(number), "each refusal was given, and no other", "refusals");
-    printf("%u checks, %u failures\n", checks, failures);
-    return failures == 0 ? EXIT_SUCCESS : EXIT_FAILURE;
+    return tally();
 }

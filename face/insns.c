@@ -1,8 +1,9 @@
 // A plugin for Debian's qemu-user: the number of guest instructions that a program ran, on standard error.
 // Build: gcc -shared -fPIC -O2 insns.c -o libinsns.so      Use: qemu-x86_64 -plugin ./libinsns.so PROGRAM
 // The count is the same in every run of the same binary on the same input, whatever else the machine does.
-// Each instruction counts itself. To count a block by its length would be quicker, but an instruction that lies across two pages is in the
-// length of the block before it too, so that the count would change with where the linker puts the code.
+// Each instruction counts itself. To count a block by its length would be quicker, but an instruction that lies across
+// two pages is in the length of the block before it too, so that the count would change with where the linker puts the
+// code.
 #include <inttypes.h>
 #include <stddef.h>
 #include <stdint.h>
@@ -24,7 +25,8 @@ static uint64_t count;
 static void translated(qemu_plugin_id_t id, struct qemu_plugin_tb *tb) {
     (void)id;
     for (size_t i = 0; i < qemu_plugin_tb_n_insns(tb); i++)
-        qemu_plugin_register_vcpu_insn_exec_inline(qemu_plugin_tb_get_insn(tb, i), QEMU_PLUGIN_INLINE_ADD_U64, &count, 1);
+        qemu_plugin_register_vcpu_insn_exec_inline(qemu_plugin_tb_get_insn(tb, i), QEMU_PLUGIN_INLINE_ADD_U64, &count,
+                                                   1);
 }
 
 static void ended(qemu_plugin_id_t id, void *unused) {

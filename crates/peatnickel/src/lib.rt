@@ -1,5 +1,6 @@
 // The controller's face: the public calls for programs in C. Words, bytes and outputs are lent as a pointer and a length; the reply is one number,
 // whose meaning specs/Numbers.antt gives. As in `rules` no call has a `requires`, and `Means` says of each which outcomes are allowed.
+// The calls named `_apart` take a mutable output besides: that it shares no byte with what else is lent is a borrow's rule here, and in C the caller's part.
 use files::Form;
 use language::Answer;
 use reading::Checked;
@@ -79,7 +80,7 @@ pub extern "C" fn peatnickel_measure(words: &[u16]) -> u32
 
 // Writes the image of a rule at the front of the output, and gives its word count.
 #[no_mangle]
-pub extern "C" fn peatnickel_write(out: &mut [u16], words: &[u16]) -> u32
+pub extern "C" fn peatnickel_write_apart(out: &mut [u16], words: &[u16]) -> u32
     ensures { λ r. ⌜ Means (Asked.write (now (words .entry)) (now (out .entry))) (r, now (out .exit)) ⌝ }
 {
     number(rules::write(out, words))
@@ -87,7 +88,7 @@ pub extern "C" fn peatnickel_write(out: &mut [u16], words: &[u16]) -> u32
 
 // Writes the file of the words, of the form told, at the front of the output, and gives the bytes written.
 #[no_mangle]
-pub extern "C" fn peatnickel_pack(out: &mut [u8], form: u32, words: &[u16]) -> u32
+pub extern "C" fn peatnickel_pack_apart(out: &mut [u8], form: u32, words: &[u16]) -> u32
     ensures { λ r. ⌜ Means (Asked.pack form (now (words .entry)) (now (out .entry))) (r, now (out .exit)) ⌝ }
 {
     match form_of(form) {
@@ -98,7 +99,7 @@ pub extern "C" fn peatnickel_pack(out: &mut [u8], form: u32, words: &[u16]) -> u
 
 // Writes the words of a file, of the form told, at the front of the output, and gives how many. Reads no terms.
 #[no_mangle]
-pub extern "C" fn peatnickel_unpack(out: &mut [u16], form: u32, bytes: &[u8]) -> u32
+pub extern "C" fn peatnickel_unpack_apart(out: &mut [u16], form: u32, bytes: &[u8]) -> u32
     ensures { λ r. ⌜ Means (Asked.unpack form (now (bytes .entry)) (now (out .entry))) (r, now (out .exit)) ⌝ }
 {
     match form_of(form) {

@@ -1,9 +1,9 @@
--- `peatnickel::peatnickel_pack` meets its contract: without a form nothing is done; else the number means what `rules::pack` answered, which is small.
+-- `peatnickel::peatnickel_unpack_apart` meets its contract: without a form nothing is done; else the number means what `rules::unpack` answered, which is small.
 -- Assumes nothing.
 use borrow.Author.Needs.{needs}
 use Rattle.peatnickel.proofs.Ways.{ways}
-use Rattle.peatnickel.proofs.peatnickel_pack.Statement.{statement}
-use Rattle.peatnickel.proofs.peatnickel_pack.Tie as tie
+use Rattle.peatnickel.proofs.peatnickel_unpack_apart.Statement.{statement}
+use Rattle.peatnickel.proofs.peatnickel_unpack_apart.Tie as tie
 
 form-of-requires : tie.Need-form-of-requires
 form-of-requires c κs = search needs
@@ -14,8 +14,8 @@ enum-told c = search needs
 enum-known-f : tie.Need-enum-known-f
 enum-known-f c = search needs
 
-pack-requires : tie.Need-pack-requires
-pack-requires c κs = search needs
+unpack-requires : tie.Need-unpack-requires
+unpack-requires c κs = search needs
 
 number-requires : tie.Need-number-requires
 number-requires c κs = search ways
@@ -29,14 +29,14 @@ same-length c = search needs
 returns-2 : tie.Need-returns-2
 returns-2 c = search ways
 
-pub peatnickel-pack-spec : {M : Type 1} → statement M
-peatnickel-pack-spec =
+pub peatnickel-unpack-apart-spec : {M : Type 1} → statement M
+peatnickel-unpack-apart-spec =
     tie.close
     (tie.spec
     form-of-requires
     enum-told
     enum-known-f
-    pack-requires
+    unpack-requires
     number-requires
     returns
     same-length

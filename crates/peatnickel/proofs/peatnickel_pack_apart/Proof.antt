@@ -1,9 +1,9 @@
--- `peatnickel::peatnickel_unpack` meets its contract: without a form nothing is done; else the number means what `rules::unpack` answered, which is small.
+-- `peatnickel::peatnickel_pack_apart` meets its contract: without a form nothing is done; else the number means what `rules::pack` answered, which is small.
 -- Assumes nothing.
 use borrow.Author.Needs.{needs}
 use Rattle.peatnickel.proofs.Ways.{ways}
-use Rattle.peatnickel.proofs.peatnickel_unpack.Statement.{statement}
-use Rattle.peatnickel.proofs.peatnickel_unpack.Tie as tie
+use Rattle.peatnickel.proofs.peatnickel_pack_apart.Statement.{statement}
+use Rattle.peatnickel.proofs.peatnickel_pack_apart.Tie as tie
 
 form-of-requires : tie.Need-form-of-requires
 form-of-requires c κs = search needs
@@ -14,8 +14,8 @@ enum-told c = search needs
 enum-known-f : tie.Need-enum-known-f
 enum-known-f c = search needs
 
-unpack-requires : tie.Need-unpack-requires
-unpack-requires c κs = search needs
+pack-requires : tie.Need-pack-requires
+pack-requires c κs = search needs
 
 number-requires : tie.Need-number-requires
 number-requires c κs = search ways
@@ -29,14 +29,14 @@ same-length c = search needs
 returns-2 : tie.Need-returns-2
 returns-2 c = search ways
 
-pub peatnickel-unpack-spec : {M : Type 1} → statement M
-peatnickel-unpack-spec =
+pub peatnickel-pack-apart-spec : {M : Type 1} → statement M
+peatnickel-pack-apart-spec =
     tie.close
     (tie.spec
     form-of-requires
     enum-told
     enum-known-f
-    unpack-requires
+    pack-requires
     number-requires
     returns
     same-length
