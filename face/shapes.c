@@ -4,7 +4,25 @@
 #include "../peer/translator/rule.h"
 #include "../peer/translator/term.h"
 
-enum { LEAF = 2, PARTS = 8, LET_LEAST = 5, TOWER_MOST = 32, CALL_WORDS = 5, LEVELS = RULE_DEPTH_MOST - 2, VALUE_LEVELS = 5 };
+/* The identity, called with a constructor: no closed call that comes to a value is shorter. */
+static const uint16_t call_words[] = { 0x0401, 0x0201, 0x0100, 0x0600, 0x0000 };
+
+enum {
+    CALL_WORDS = sizeof call_words / sizeof call_words[0],
+    /* the words of the shortest closed term */
+    LEAF = FILLER_WORDS_LEAST,
+    /* of a call or a match: as many as one size measured is times the next smaller, so that each level shares alike */
+    PARTS = 8,
+    /* the words of the shortest let: its head and two leaves */
+    LET_LEAST = 1 + 2 * LEAF,
+    /* half of the depth, so that there is depth left for the lets around the functions, seven at 4,096 words */
+    TOWER_MOST = RULE_DEPTH_MOST / 2,
+    /* all levels of the deepest rule but two, its outermost function and its innermost leaf */
+    LEVELS = RULE_DEPTH_MOST - 2,
+    /* the most levels that a filler has: of up to 4,096 words, and of a share of them by the levels around it */
+    VALUE_LEVELS = 5,
+    SHARE_LEVELS = 4
+};
 
 /* So many words in parts, as even as can be. */
 static void put_even(struct word_sink *sink, void (*put)(struct word_sink *, size_t), size_t words, size_t parts)
@@ -89,24 +107,21 @@ static void put_functions(struct word_sink *sink, size_t words)
     put_kind(sink, KIND_VARIABLE, 0);
 }
 
-/* The identity, called with a constructor. */
 static void put_call(struct word_sink *sink)
 {
-    const struct word_list call = WORD_LIST(0x0401, 0x0201, 0x0100, 0x0600, 0x0000);
-
-    put_words(sink, call);
+    put_words(sink, (struct word_list){ call_words, CALL_WORDS });
 }
 
 /*
- * Constructors that are no atoms, each with a value before the next one; the innermost holds a call. Whether each of them is an
- * atom is seen only at its end. As many levels as there are words for, up to the depth's limit.
+ * Constructors that are no atoms, each with a value before the next one; the innermost holds a call. Whether each of
+ * them is an atom is seen only at its end. As many levels as there are words for, up to the depth's limit.
  */
 static void put_constructors(struct word_sink *sink, size_t words)
 {
     size_t levels = (words - CALL_WORDS) / (2 * LEAF);
 
-    if (levels > LEVELS - 2)
-        levels = LEVELS - 2;
+    if (levels > RULE_DEPTH_MOST - SHARE_LEVELS)
+        levels = RULE_DEPTH_MOST - SHARE_LEVELS;
     for (words -= CALL_WORDS; levels > 0; levels--) {
         size_t share = words / levels;
 
@@ -117,7 +132,10 @@ static void put_constructors(struct word_sink *sink, size_t words)
     put_call(sink);
 }
 
-/* The same with all values in the innermost, so that each of the others stands around all of them. */
+/*
+ * The same with all values in the innermost, so that each of the others stands around all of them. Their levels are of
+ * those that the deepest rules have for their form, less the values'.
+ */
 static void put_surrounding(struct word_sink *sink, size_t words)
 {
     size_t levels = (words - CALL_WORDS) / (2 * LEAF);
