@@ -220,20 +220,17 @@ static size_t deepest(call function, struct word_list rule)
     return one > other ? one : other;
 }
 
-/* The file that was packed last, which is unpacked next. */
 static uint8_t file[PEATNICKEL_RULE_FILE_BYTES];
-static uint32_t file_bytes;
 
 static uint32_t our_pack(struct word_list rule)
 {
-    file_bytes = peatnickel_pack(file, sizeof file, PEATNICKEL_RULES, rule.words, rule.count);
-    return file_bytes;
+    return peatnickel_pack(file, sizeof file, PEATNICKEL_RULES, rule.words, rule.count);
 }
 
+/* Of the file that was packed last. */
 static uint32_t our_unpack(struct word_list rule)
 {
-    (void)rule;
-    return peatnickel_unpack(out, PEATNICKEL_IMAGE_WORDS, PEATNICKEL_RULES, file, file_bytes);
+    return peatnickel_unpack(out, PEATNICKEL_IMAGE_WORDS, PEATNICKEL_RULES, file, PEATNICKEL_FILE_BYTES(rule.count));
 }
 
 static int show_stack(void)

@@ -15,16 +15,16 @@
 #include "peatnickel.h"
 
 enum {
-    HEADER = 7, /* bytes of a file before its words */
-    SPARE = 8,  /* words more than any reply fills */
+    HEADER = PEATNICKEL_FILE_BYTES(0),
+    SPARE = 8, /* words more than any reply fills */
     ROOM = PEATNICKEL_IMAGE_WORDS + SPARE,
-    FILE_ROOM = HEADER + 2 * ROOM,
+    FILE_ROOM = PEATNICKEL_FILE_BYTES(ROOM),
     LAST_REFUSAL = PEATNICKEL_DEAD_ARM,
     WRONG_WORD = 0xFFFF /* neither a head nor a second word */
 };
 
-_Static_assert(PEATNICKEL_RULE_FILE_BYTES == HEADER + 2 * PEATNICKEL_RULE_WORDS, "the longest file of rules");
-_Static_assert(PEATNICKEL_IMAGE_FILE_BYTES == HEADER + 2 * PEATNICKEL_IMAGE_WORDS, "the longest file of images");
+_Static_assert(PEATNICKEL_RULE_FILE_BYTES == 8199, "the paper's longest file of rules");
+_Static_assert(PEATNICKEL_IMAGE_FILE_BYTES == 57351, "the longest file of images");
 
 static bool given[LAST_REFUSAL + 1]; /* the refusals that were seen */
 
@@ -142,7 +142,7 @@ static void try_refused(const char *name, struct word_list rule, uint32_t expect
 static void try_file(const char *name, uint32_t form, struct word_list words, const uint8_t *bytes)
 {
     static uint8_t file[FILE_ROOM];
-    size_t size = HEADER + 2 * words.count;
+    size_t size = PEATNICKEL_FILE_BYTES(words.count);
 
     paint();
     expect_reply(peatnickel_pack(bytes_out, size - 1, form, words.words, words.count), placeless(PEATNICKEL_NO_ROOM),
@@ -301,7 +301,7 @@ static void put_file_header(uint8_t *bytes, char third, unsigned version, size_t
 static void longest_files(void)
 {
     static uint16_t words[PEATNICKEL_IMAGE_WORDS + 1];
-    static uint8_t file[HEADER + 2 * (PEATNICKEL_IMAGE_WORDS + 1)];
+    static uint8_t file[PEATNICKEL_FILE_BYTES(PEATNICKEL_IMAGE_WORDS + 1)];
     const struct {
         const char *name;
         uint32_t form;
@@ -318,14 +318,14 @@ static void longest_files(void)
         try_file(forms[i].name, forms[i].form, (struct word_list){ words, forms[i].most }, NULL);
         try_bad_pack(forms[i].name, forms[i].form, (struct word_list){ words, past }, PEATNICKEL_TOO_MANY_WORDS);
         put_file_header(file, forms[i].third, 1, past);
-        try_bad_file(forms[i].name, forms[i].form, file, HEADER + 2 * past, PEATNICKEL_TOO_MANY_WORDS);
+        try_bad_file(forms[i].name, forms[i].form, file, PEATNICKEL_FILE_BYTES(past), PEATNICKEL_TOO_MANY_WORDS);
     }
 }
 
 /* The refusals of files: 10, 11, 12, 1, in this order, and no form. */
 static void bad_files(void)
 {
-    uint8_t file[HEADER + 2] = { 0 };
+    uint8_t file[PEATNICKEL_FILE_BYTES(1)] = { 0 };
 
     put_file_header(file, 'S', 1, 1);
     try_bad_file("no bytes", PEATNICKEL_RULES, NULL, 0, PEATNICKEL_WRONG_MARK);

@@ -65,11 +65,14 @@ extern "C" {
 #define PEATNICKEL_VERSION_MAJOR 1
 #define PEATNICKEL_VERSION_MINOR 0
 
+/* The bytes of a file of so many words. */
+#define PEATNICKEL_FILE_BYTES(words) (7 + 2 * (words))
+
 /* The most words of a rule and of an image, and the most bytes of their files: the longest buffers that serve. */
 #define PEATNICKEL_RULE_WORDS 4096
 #define PEATNICKEL_IMAGE_WORDS 28672
-#define PEATNICKEL_RULE_FILE_BYTES 8199
-#define PEATNICKEL_IMAGE_FILE_BYTES 57351
+#define PEATNICKEL_RULE_FILE_BYTES PEATNICKEL_FILE_BYTES(PEATNICKEL_RULE_WORDS)   /* 8,199 */
+#define PEATNICKEL_IMAGE_FILE_BYTES PEATNICKEL_FILE_BYTES(PEATNICKEL_IMAGE_WORDS) /* 57,351 */
 
 /* Where the refusals start, and what a place counts for: a refusal is 65,536 + its number + 65,536 * its place. */
 #define PEATNICKEL_REFUSALS UINT32_C(65536)
