@@ -145,7 +145,7 @@ static uint32_t ask_peer(const struct call *call)
     struct reply reply;
 
     if (call->form != PEATNICKEL_RULES && call->form != PEATNICKEL_IMAGES)
-        return PEATNICKEL_REFUSALS + PEATNICKEL_NO_FORM;
+        return PEATNICKEL_REFUSALS + PEATNICKEL_WRONG_USE;
     reply = ask_form(call, call->form == PEATNICKEL_RULES ? FORM_RULE : FORM_IMAGE);
     if (reply.refusal.number == REFUSED_NOTHING)
         return (uint32_t)reply.count;
