@@ -18,13 +18,12 @@ use prog.Memory.{Memory}
 use prog.Routine.{Routine}
 use prog.Wp.{Heap, Calls, Loops, WpFn, Tables}
 use ghost.Atoms.{Atoms, sem}
-use contract.Lifetimes.{Lfts}
 use contract.Monad.{Fun, fact}
 use contract.Running.{givenOf, tables, tablesOf}
 use types.Kit.{Given, ‵, raw, _⊛_, ⋆, some, later, _$_, _∵_, !, qed, by, move, drop, use1, use2, use3, split, join, pick, fsplit, fjoin, suffices, frame, await, done}
 use types.Run.{look, init, forget, stop, from, load, of-opd, and-then, no-more, assigns, land, returns, enter, alloc1, alloc0, params1, pass1, pass0, free1, free0}
 use sound.WpLaws.{FmC, fmOf, WpFn-mono}
-use denote.RattleType.{RattleType, owns}
+use denote.RattleType.{owns}
 use denote.Laws.{Is, shows}
 use denote.Plain.{uint-lawful}
 use denote.Builtin.{u16, usize}
@@ -47,6 +46,7 @@ use Rattle.reading.specs.Steps.{termStep, standsAt, endedAt}
 use Rattle.reading.specs.declared.Reader.{Reader}
 use Rattle.reading.specs.declared.Step.{Step}
 use Rattle.reading.proofs.Answers.{rule-step}
+use Rattle.reading.proofs.Held.{Place}
 use Rattle.reading.proofs.Reader as T
 use Rattle.reading.proofs.Reader.Laws as T′
 use Rattle.reading.proofs.Step as S
@@ -75,10 +75,6 @@ use Rattle.reading.proofs.rule_of.Key.{name as #reading·rule-of}
 use Rattle.reading.proofs.rule_of as whole
 use Rattle.reading.proofs.rule_of.Statement as stated
 use Rattle.reading.proofs.rule_of.Code as code
-
--- the struct's type, over the signature's lifetimes
-abbrev B : Lfts 1 → RattleType
-B κs = T.the-row (namedLft 1 0 tt κs)
 
 abbrev stayed : Stays (whole.ended .signature .params) (whole.ended .kept)
 stayed = (stay-none-slice (0 ∷ []) tt (plain (λ _. u16)) yes, tt)
@@ -121,7 +117,7 @@ module _ {M : Type 1} (𝓤 : URA M) (H : Heap 𝓤) (A : Atoms 𝓤) (W : Given
 
   -- what a reading place r with the machine value u owns, a step, and a number
   abbrev OwnR : Reader → Val → Fml
-  OwnR r u = B (κ, tt) .own r (u ∷ [])
+  OwnR r u = Place (κ, tt) .own r (u ∷ [])
 
   abbrev OwnS : Step → Val → Fml
   OwnS t u = S.the-row .own t (u ∷ [])
@@ -235,7 +231,7 @@ module _ {M : Type 1} (𝓤 : URA M) (H : Heap 𝓤) (A : Atoms 𝓤) (W : Given
         (ensured 𝓤 H A start.ended (start.clauses 𝓤 H A mem run) (κ, tt) (s, tt) tt r)))) (id⊢ 𝓤 _) $ await ! tt $ pick ! (λ r.
         split ! $ move ! (1 ∷ []) $ use1 W (raw (fact 𝓤 (Started r))) (start-said r) $ heard ! (Started r) (λ e. split ! $ move ! (1 ∷ []) $
         -- [what the place owns; the token; what s owns; room for _7; …; room for _2; …; _1; …; room for _0; …]
-        peeks ! (B (κ, tt)) (Is (B (κ, tt))) (shows 𝓤 H A (B (κ, tt))) r (u ∷ []) (λ is.
+        peeks ! (Place (κ, tt)) (Is (Place (κ, tt))) (shows 𝓤 H A (Place (κ, tt))) r (u ∷ []) (λ is.
         land ! (from ! (stop !)) (init ! 13 refl (LL.lawful (T.the-type αᵉ) (T′.the-laws αᵉ) 𝓤 H A W .typed r _ is .0)) $
         -- _4 = _2; _3 = closed_here(_4)
         assigns ! (of-opd ! (load ! (from ! (stop !)) (look ! 13 refl))) (from ! (stop !))
@@ -270,7 +266,7 @@ module _ {M : Type 1} (𝓤 : URA M) (H : Heap 𝓤) (A : Atoms 𝓤) (W : Given
         split ! $ move ! (1 ∷ []) $ use1 W (raw (fact 𝓤 (Moved r n r′))) (moved-said r n r′) $ heard ! (Moved r n r′) (λ h. split ! $
         move ! (1 ∷ []) $
         -- [what the moved place owns; the token; what s owns; _7; …; _6; …; room for _5; …; _4; …; _3; …; _2; …; _1; …; room for _0; …]
-        peeks ! (B (κ, tt)) (Is (B (κ, tt))) (shows 𝓤 H A (B (κ, tt))) r′ (u″ ∷ []) (λ is″.
+        peeks ! (Place (κ, tt)) (Is (Place (κ, tt))) (shows 𝓤 H A (Place (κ, tt))) r′ (u″ ∷ []) (λ is″.
         land ! (from ! (stop !)) (init ! 7 refl (LL.lawful (T.the-type αᵉ) (T′.the-laws αᵉ) 𝓤 H A W .typed r′ _ is″ .0)) $
         -- _0 = ended_here(_5, _3)
         owned ! S.the-row (Is S.the-row) (EL.makes S.the-type S′.the-plain 𝓤 H A) t (u′ ∷ []) is′ $
