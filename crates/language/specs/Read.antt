@@ -1,4 +1,4 @@
--- Reading a rule: document 01, "Checks in order". "The words are read from first to last, and the first fault met is the reply."
+-- Reading a rule: document 01, "Checks in order". "the words are read from first to last, and the first fault met is the reply."
 -- A place is the index of a word. Document 02, Wish 1: "Refusals 3 to 8 shall carry the place of the word tested, counted from 0; 3 carries the
 -- number of words given. All other refusals carry place 0."; and Wish 4: "18, with its place".
 use Prim.Native.Nat.{ℕ, zero, suc, _+_, _%_}

@@ -9,7 +9,7 @@ HasK images = Unit {0}
 
 -- `Scoped L c d t`: in the language L, t names continuation variables below c and source variables below d alone. "Source indices and
 -- continuation indices are counted separately."
--- A function of a arguments binds a source variables and k_0, and "a recursive function of a arguments also binds x_a in its body to
+-- A function of a arguments binds a source variables and k_0, and "A recursive function of a arguments also binds x_a in its body to
 -- itself". "A let or an arm binds source variables only": the let's value; the arm's arguments.
 mutual
   pub data Scoped (L : Lang) : ℕ → ℕ → Term → Type 0 where

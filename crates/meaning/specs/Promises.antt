@@ -12,7 +12,7 @@ use Rattle.language.specs.Image.{image, carried}
 use Rattle.language.specs.Read.{read, accepted}
 
 -- the applications that an image makes for a rule's run with these counts: two for each value taken whole, each call and each constructor
--- built from unfinished parts, and one for each let and each match. "A call there is one application."
+-- built from unfinished parts, and one for each let and each match. "a call there is one application."
 abbrev pub applications : Counts → ℕ
 applications c = 2 * (c .values + c .calls + c .builds) + c .lets + c .matches
 
