@@ -20,6 +20,7 @@
 
 #include "../peer/generators/corpus.h"
 #include "../peer/translator/image.h"
+#include "number.h"
 #include "peatnickel.h"
 #include "shapes.h"
 
@@ -51,31 +52,23 @@ static uint32_t our_write(struct word_list rule)
     return peatnickel_write(out, PEATNICKEL_IMAGE_WORDS, rule.words, rule.count);
 }
 
-/* The second translator's reply, as a number of the face. */
-static uint32_t number(struct refusal refusal, size_t count)
-{
-    if (refusal.number == REFUSED_NOTHING)
-        return (uint32_t)count;
-    return PEATNICKEL_REFUSALS + refusal.number + PEATNICKEL_REFUSALS * (uint32_t)refusal.place;
-}
-
 static uint32_t peer_check(struct word_list rule)
 {
-    return number(check_rule(rule), 0);
+    return number_of(check_rule(rule), 0);
 }
 
 static uint32_t peer_measure(struct word_list rule)
 {
     struct reply reply = measure_image(rule);
 
-    return number(reply.refusal, reply.count);
+    return number_of(reply.refusal, reply.count);
 }
 
 static uint32_t peer_write(struct word_list rule)
 {
     struct reply reply = write_image(rule, out, PEATNICKEL_IMAGE_WORDS);
 
-    return number(reply.refusal, reply.count);
+    return number_of(reply.refusal, reply.count);
 }
 
 static call call_of(char side, char name)

@@ -12,6 +12,7 @@
 #include "../peer/generators/gen_record.h"
 #include "../peer/translator/image.h"
 #include "expect.h"
+#include "number.h"
 #include "peatnickel.h"
 
 enum {
@@ -39,11 +40,6 @@ static void expect_reply(uint32_t reply, uint32_t expected, const char *what, co
         given[peatnickel_refusal_of(reply)] = true;
 }
 
-static uint32_t refusal(uint32_t number, size_t place)
-{
-    return PEATNICKEL_REFUSALS + number + PEATNICKEL_REFUSALS * (uint32_t)place;
-}
-
 /* The refusals that there are: 0 to 12 and 18. */
 static bool is_number(uint32_t number)
 {
@@ -53,13 +49,7 @@ static bool is_number(uint32_t number)
 /* All refusals but 3 to 8 and 18 carry place 0. */
 static uint32_t placeless(uint32_t number)
 {
-    return refusal(number, 0);
-}
-
-/* A refusal of a case of peer/, as a reply. */
-static uint32_t reply_of(struct refusal expected)
-{
-    return refusal(expected.number, expected.place);
+    return number_of_refusal(number, 0);
 }
 
 /* Paint that differs from place to place. */
@@ -178,7 +168,7 @@ static void try_bad_pack(const char *name, uint32_t form, struct word_list words
 static void refused_rules(const struct refused_case *cases, size_t count)
 {
     for (size_t i = 0; i < count; i++)
-        try_refused(cases[i].name, cases[i].rule, reply_of(cases[i].refusal));
+        try_refused(cases[i].name, cases[i].rule, number_of(cases[i].refusal, 0));
 }
 
 /* The worked rules: cases A to N with B's image, which the paper prints, and those that the later requests ask for. */
@@ -213,7 +203,7 @@ static void case_o(void)
     struct word_sink sink = sink_into(words, O_REFUSED_FUNCTIONS + 2);
 
     put_case_o(&sink, O_REFUSED_FUNCTIONS);
-    try_refused("case O, 64 functions", sink_words(&sink), refusal(PEATNICKEL_TOO_DEEP, O_REFUSED_FUNCTIONS));
+    try_refused("case O, 64 functions", sink_words(&sink), number_of_refusal(PEATNICKEL_TOO_DEEP, O_REFUSED_FUNCTIONS));
     sink = sink_into(words, O_REFUSED_FUNCTIONS + 2);
     put_case_o(&sink, O_ACCEPTED_FUNCTIONS);
     try_accepted("case O, 63 functions", sink_words(&sink), peer_image(sink_words(&sink)));
@@ -235,12 +225,13 @@ static void longest_rules(void)
     put_filler(&sink, PEATNICKEL_RULE_WORDS + 1);
     try_refused("4,097 words", sink_words(&sink), placeless(PEATNICKEL_TOO_MANY_WORDS));
     sink.count = PEATNICKEL_RULE_WORDS;
-    try_refused("4,096 words and one missing", sink_words(&sink), refusal(PEATNICKEL_NONE_LEFT, PEATNICKEL_RULE_WORDS));
+    try_refused("4,096 words and one missing", sink_words(&sink),
+                number_of_refusal(PEATNICKEL_NONE_LEFT, PEATNICKEL_RULE_WORDS));
     sink = sink_into(words, PEATNICKEL_RULE_WORDS + 1);
     put_filler(&sink, PEATNICKEL_RULE_WORDS - 1);
     put_words(&sink, (struct word_list)WORD_LIST(WRONG_WORD));
     try_refused("4,095 words and one left over", sink_words(&sink),
-                refusal(PEATNICKEL_LEFT_OVER, PEATNICKEL_RULE_WORDS - 1));
+                number_of_refusal(PEATNICKEL_LEFT_OVER, PEATNICKEL_RULE_WORDS - 1));
 }
 
 /* A refusal's parts are read from the reply; a count is none. */
@@ -250,14 +241,14 @@ static void replies(void)
 
     for (uint32_t number = 0; number <= LAST_REFUSAL; number++)
         for (size_t i = 0; i < sizeof places / sizeof places[0]; i++) {
-            uint32_t reply = refusal(number, places[i]);
+            uint32_t reply = number_of_refusal(number, places[i]);
 
             expect(peatnickel_is_refusal(reply), "is a refusal", "replies");
             expect(peatnickel_refusal_of(reply) == number, "number", "replies");
             expect(peatnickel_place_of(reply) == places[i], "place", "replies");
         }
-    expect(refusal(PEATNICKEL_OUT_OF_RANGE, 0) == 65541, "5 at 0", "replies");
-    expect(refusal(PEATNICKEL_OUT_OF_RANGE, 17) == 1179653, "5 at 17", "replies");
+    expect(number_of_refusal(PEATNICKEL_OUT_OF_RANGE, 0) == 65541, "5 at 0", "replies");
+    expect(number_of_refusal(PEATNICKEL_OUT_OF_RANGE, 17) == 1179653, "5 at 17", "replies");
     expect(!peatnickel_is_refusal(0) && !peatnickel_is_refusal(PEATNICKEL_REFUSALS - 1), "counts", "replies");
 }
 
@@ -277,14 +268,14 @@ static void spoiled_cases(void)
         for (size_t place = 0; place < rule.count; place++) {
             memcpy(words, rule.words, rule.count * sizeof words[0]);
             words[place] = WRONG_WORD;
-            try_refused(name, spoiled, refusal(check_rule(spoiled).number, place));
+            try_refused(name, spoiled, number_of_refusal(check_rule(spoiled).number, place));
         }
         for (size_t count = 1; count < rule.count; count++)
-            try_refused(name, (struct word_list){ rule.words, count }, refusal(PEATNICKEL_NONE_LEFT, count));
+            try_refused(name, (struct word_list){ rule.words, count }, number_of_refusal(PEATNICKEL_NONE_LEFT, count));
         memcpy(words, rule.words, rule.count * sizeof words[0]);
         words[rule.count] = words[0];
         spoiled.count = rule.count + 1;
-        try_refused(name, spoiled, refusal(PEATNICKEL_LEFT_OVER, rule.count));
+        try_refused(name, spoiled, number_of_refusal(PEATNICKEL_LEFT_OVER, rule.count));
     }
 }
 

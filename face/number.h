@@ -1,0 +1,22 @@
+/* A refusal, and a reply of the second translator, as the number that the face gives for it. */
+#ifndef FACE_NUMBER_H
+#define FACE_NUMBER_H
+
+#include <stddef.h>
+#include <stdint.h>
+
+#include "../peer/translator/rule.h"
+#include "peatnickel.h"
+
+static inline uint32_t number_of_refusal(uint32_t number, size_t place)
+{
+    return PEATNICKEL_REFUSALS + number + PEATNICKEL_REFUSALS * (uint32_t)place;
+}
+
+/* The count, where nothing was refused. */
+static inline uint32_t number_of(struct refusal refusal, size_t count)
+{
+    return refusal.number == REFUSED_NOTHING ? (uint32_t)count : number_of_refusal(refusal.number, refusal.place);
+}
+
+#endif
