@@ -13,11 +13,11 @@ use Rattle.language.specs.Words.{words}
 use Rattle.language.specs.Sub.{sub}
 use Rattle.language.specs.Run.{atom, enters, rev, itself, took, count}
 use Rattle.language.specs.Image.{downto, passing, image}
-use Rattle.language.specs.Kinds.{headOf}
+use Rattle.language.specs.Kinds.{known, headOf}
 use Rattle.language.specs.Dead.{dead}
-use Rattle.language.specs.Read.{Reading, accepted, refused, then, made, second, many, unlike, armsOf, opened, term, closed, ended, read}
+use Rattle.language.specs.Read.{Reading, accepted, refused, then, made, second, number, many, unlike, armsOf, opened, term, closed, ended, read}
 use Rattle.language.specs.Calls.{Reply, success, refusal, filled, written}
-use Rattle.language.specs.Cases.{Result, Case, Said, Prints, ComesTo, Meets, worked, Each, WorkedRules}
+use Rattle.language.specs.Cases.{Result, Case, Said, Prints, ComesTo, readIn, Meets, worked, Each, WorkedRules}
 use Rattle.language.proofs.Eval.{levels, Ran, eval}
 
 pub same : List ℕ → List ℕ → Bool
@@ -91,18 +91,18 @@ coming-is (refused e p) r h = absurd h
 test : Case → Bool
 unfolding same-reply said printing coming
 test c =
-    same-reply (written (read (c .rule)) (replicate (c .room) 0) .reply) (c .reply)
-    && (said (c .printed) (printing (read (c .rule))) && said (c .result) (coming (read (c .rule))))
+    same-reply (written (readIn c) (replicate (c .room) 0) .reply) (c .reply)
+    && (said (c .printed) (printing (readIn c)) && said (c .result) (coming (readIn c)))
 
 test-is : (c : Case) → T (test c) → Meets c
 unfolding test
 test-is c h =
-    let p = and-yes (same-reply (written (read (c .rule)) (replicate (c .room) 0) .reply) (c .reply)) _ h in
-    let q = and-yes (said (c .printed) (printing (read (c .rule)))) _ (p .1) in
+    let p = and-yes (same-reply (written (readIn c) (replicate (c .room) 0) .reply) (c .reply)) _ h in
+    let q = and-yes (said (c .printed) (printing (readIn c))) _ (p .1) in
     record {
       replies = same-reply-is _ _ (p .0);
-      prints = said-is (c .printed) _ (printing-is (read (c .rule))) (q .0);
-      comes = said-is (c .result) _ (coming-is (read (c .rule))) (q .1);
+      prints = said-is (c .printed) _ (printing-is (readIn c)) (q .0);
+      comes = said-is (c .result) _ (coming-is (readIn c)) (q .1);
     }
 
 tests : List Case → Bool
@@ -116,5 +116,5 @@ tests-is [] h = tt
 tests-is (c ∷ cs) h = let p = and-yes (test c) (tests cs) h in (test-is c (p .0), tests-is cs (p .1))
 
 pub worked-rules : WorkedRules
-unfolding tests read closed ended term then made second many unlike dead armsOf opened headOf written filled words image passing downto atom size sub enters rev itself took eval count
+unfolding tests read known closed ended term then made second number many unlike dead armsOf opened headOf written filled words image passing downto atom size sub enters rev itself took eval count
 worked-rules = tests-is worked tt

@@ -6,8 +6,8 @@ use mathlib.Core.Option.{some, Option·some-injective}
 use mathlib.Core.Path.{_≡_, refl, ap, ap₂, sym, _∙_, subst}
 use Rattle.language.specs.Term.{Lang, Term, Terms, Arms, fun, con, nil, cons, size}
 use Rattle.language.specs.Sub.{sub}
-use Rattle.language.specs.Run.{atoms, Values, v-fun, v-con, enters, rev, itself, took}
-use Rattle.language.specs.Run.{Run, Runs, taken, built, bound, called, matched, done, then, uses, _⊕_, count, counts}
+use Rattle.language.specs.Run.{atoms, Values, v-fun, v-con, v-num, Gives, adds, subtracts, less, enters, rev, itself, took}
+use Rattle.language.specs.Run.{Run, Runs, taken, built, bound, called, matched, operated, done, then, uses, _⊕_, count, counts}
 use Rattle.language.proofs.Forms.{values-atoms}
 
 -- values are atoms, so a constructor that is no value is not built of them
@@ -30,6 +30,12 @@ pub match-same : {vs vs' : Terms} {b b' : Term} {t t' : ℕ} (ps : Arms) → too
     → con t vs ≡ con t' vs' → sub 0 0 nil (rev vs nil) b ≡ sub 0 0 nil (rev vs' nil) b'
 match-same {vs} {vs'} {t} {t'} ps k k' p = let x : t ≡ t' = cc in let y : vs ≡ vs' = cc in cc
 
+-- what two operations give that are the same
+gives-same : {o : ℕ} {vs vs' : Terms} {v v' : Term} → Gives o vs v → Gives o vs' v' → vs ≡ vs' → v ≡ v'
+gives-same adds adds e = cc
+gives-same subtracts subtracts e = cc
+gives-same (less {a} {b}) (less {a = a'} {b = b'}) e = let p : a ≡ a' = cc in let q : b ≡ b' = cc in rw (p, q)
+
 -- the value and the counts of the run s are those of the run r, which may be of another term
 abbrev Same : {L : Lang} {t t' v v' : Term} → Run L t v → Run L t' v' → Type 0
 Same {v} {v'} s r = (v ≡ v') × (count s ≡ count r)
@@ -44,6 +50,7 @@ mutual
   pub same-run : {L : Lang} {t v v' : Term} (r : Run L t v) (r' : Run L t v') → Same r r'
   same-run (taken v-fun) (taken y) = (refl, refl)
   same-run (taken (v-con vs)) (taken y) = (refl, refl)
+  same-run (taken v-num) (taken y) = (refl, refl)
   same-run (taken (v-con vs)) (built e r) = absurd (no-atoms vs e)
   same-run (built e r) (taken (v-con vs)) = absurd (no-atoms vs e)
   same-run (built {t} e r) (built e' r') = let (p, q) = same-runs r r' in (ap (con t) p, λ i. uses 0 0 0 0 1 ⊕ q i)
@@ -60,6 +67,7 @@ mutual
       let (p, q) = same-run r r' in
       let (p', q') = along s (match-same ps k k' p) (λ x. same-run s x) s' in
       (p', λ i. uses 0 0 0 1 0 ⊕ q i ⊕ q' i)
+  same-run (operated r g) (operated r' g') = let (p, q) = same-runs r r' in (gives-same g g' p, λ i. uses 0 0 0 0 1 ⊕ q i)
 
   pub same-runs : {L : Lang} {ts vs vs' : Terms} (r : Runs L ts vs) (r' : Runs L ts vs') → (vs ≡ vs') × (counts r ≡ counts r')
   same-runs done done = (refl, refl)

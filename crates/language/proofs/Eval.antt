@@ -5,9 +5,9 @@ use Prim.Native.Nat.{ℕ, zero, suc}
 use mathlib.Core.Bool.{Bool, true, false}
 use mathlib.Core.Path.{_≡_, refl}
 use mathlib.Core.Option.{Option, some, none as nothing}
-use Rattle.language.specs.Term.{Lang, Term, Terms, Arms, var, kvar, fun, call, bind, con, cases, nil, cons, size}
+use Rattle.language.specs.Term.{Lang, Term, Terms, Arms, var, kvar, fun, call, bind, con, cases, num, op, nil, cons, size}
 use Rattle.language.specs.Sub.{sub}
-use Rattle.language.specs.Run.{atoms, Value, Values, v-fun, v-con, v-nil, v-cons, enters, rev, itself, took, Run, Runs, taken, built, bound, called, matched, done, then}
+use Rattle.language.specs.Run.{atoms, Value, Values, v-fun, v-con, v-num, v-nil, v-cons, Gives, adds, subtracts, less, enters, rev, itself, took, Run, Runs, taken, built, bound, called, matched, operated, done, then}
 
 -- levels enough for the run of each worked rule and of its image
 abbrev pub levels : ℕ
@@ -32,10 +32,47 @@ mutual
   value? (bind m b) = nothing
   value? (con t ps) = elim (values? ps) [ nothing ↦ nothing | some vs ↦ some (v-con vs) ]
   value? (cases m ps) = nothing
+  value? (num n) = some v-num
+  value? (op o ps) = nothing
 
   values? : (ts : Terms) → Option (Values ts)
   values? nil = some v-nil
   values? (cons t ts) = elim (value? t) [ nothing ↦ nothing | some v ↦ elim (values? ts) [ nothing ↦ nothing | some vs ↦ some (v-cons v vs) ] ]
+
+-- whether a term is a number
+pub data Number : Term → Type 0 where
+  is-number : {n : ℕ} → Number (num n)
+
+number? : (t : Term) → Option (Number t)
+number? (var i) = nothing
+number? (kvar i) = nothing
+number? (fun o a b) = nothing
+number? (call f ps) = nothing
+number? (bind m b) = nothing
+number? (con t ps) = nothing
+number? (cases m ps) = nothing
+number? (num n) = some is-number
+number? (op o ps) = nothing
+
+-- what an operation gives, if anything
+pub record Given (o : ℕ) (vs : Terms) : Type 0 where
+  pub result : Term
+  pub gives : Gives o vs result
+
+of-numbers? : {s t : Term} (o : ℕ) → Option (Number s) → Option (Number t) → Option (Given o (cons s (cons t nil)))
+of-numbers? o nothing y = nothing
+of-numbers? o (some x) nothing = nothing
+of-numbers? zero (some is-number) (some is-number) = some record { result = _; gives = adds }
+of-numbers? (suc zero) (some is-number) (some is-number) = some record { result = _; gives = subtracts }
+of-numbers? (suc (suc zero)) (some is-number) (some is-number) = some record { result = _; gives = less }
+of-numbers? (suc (suc (suc o))) (some is-number) (some is-number) = nothing
+
+gives? : (o : ℕ) (vs : Terms) → Option (Given o vs)
+unfolding number? of-numbers?
+gives? o nil = nothing
+gives? o (cons s nil) = nothing
+gives? o (cons s (cons t nil)) = of-numbers? o (number? s) (number? t)
+gives? o (cons s (cons t (cons u us))) = nothing
 
 -- one rule at a time, where go finds the runs of parts and bodies
 module _ (L : Lang) (go : (t : Term) → Option (Ran L t)) where
@@ -71,6 +108,8 @@ module _ (L : Lang) (go : (t : Term) → Option (Ran L t)) where
   call? f ps vs (bind m b) r rs = nothing
   call? f ps vs (con t qs) r rs = nothing
   call? f ps vs (cases m qs) r rs = nothing
+  call? f ps vs (num n) r rs = nothing
+  call? f ps vs (op o qs) r rs = nothing
 
   arm? : (m : Term) (ps : Arms) (t : ℕ) (vs : Terms) → Run L m (con t vs) → (o : Option Term) → took t (size vs) ps ≡ o → Option (Ran L (cases m ps))
   arm? m ps t vs r nothing e = nothing
@@ -86,9 +125,15 @@ module _ (L : Lang) (go : (t : Term) → Option (Ran L t)) where
   match? m ps (bind n b) r = nothing
   match? m ps (con t vs) r = arm? m ps t vs r (took t (size vs) ps) refl
   match? m ps (cases n qs) r = nothing
+  match? m ps (num n) r = nothing
+  match? m ps (op o qs) r = nothing
+
+  op? : (o : ℕ) (ps : Terms) → Rans L ps → Option (Ran L (op o ps))
+  unfolding gives?
+  op? o ps rs = elim (gives? o (rs .values)) [ nothing ↦ nothing | some g ↦ some record { value = g .result; run = operated (rs .runs) (g .gives) } ]
 
   round : (t : Term) → Option (Ran L t)
-  unfolding con? let? call? match? parts?
+  unfolding con? let? call? match? op? parts?
   round (var i) = nothing
   round (kvar i) = nothing
   round (fun o a b) = some record { value = fun o a b; run = taken v-fun }
@@ -100,6 +145,8 @@ module _ (L : Lang) (go : (t : Term) → Option (Ran L t)) where
   round (bind m b) = elim (go m) [ nothing ↦ nothing | some r ↦ let? m b r ]
   round (con t ps) = con? t ps (atoms ps) refl
   round (cases m ps) = elim (go m) [ nothing ↦ nothing | some r ↦ match? m ps (r .value) (r .run) ]
+  round (num n) = some record { value = num n; run = taken v-num }
+  round (op o ps) = elim (parts? ps) [ nothing ↦ nothing | some rs ↦ op? o ps rs ]
 
 -- the run of a term, where it has one of at most g levels
 unfoldable pub eval : (L : Lang) → ℕ → (t : Term) → Option (Ran L t)

@@ -9,8 +9,8 @@ use mathlib.Core.Bool.{Bool, true, false, cond, false≢true, and-eq-true-iff}
 use mathlib.Core.Option.{Option, some, none as nothing, Option·some-injective, Option·none-ne-some}
 use lib.Dec.{eqb}
 use borrow.Author.Tests.{eq-eqb, eqb-true}
-use Rattle.language.specs.Term.{Term, Terms, Arms, var, kvar, fun, call, bind, con, cases, nil, cons, none, arm, size, sizeᵃ}
-use Rattle.language.specs.Run.{atom, atoms, Value, Values, v-fun, v-con, v-nil, v-cons, counted, itself, both}
+use Rattle.language.specs.Term.{Term, Terms, Arms, var, kvar, fun, call, bind, con, cases, num, op, nil, cons, none, arm, size, sizeᵃ}
+use Rattle.language.specs.Run.{atom, atoms, Value, Values, v-fun, v-con, v-num, v-nil, v-cons, counted, itself, both}
 use Rattle.language.specs.Image.{lam, to, downto, making, passing, carried, carrieds, chain, passingᵃ}
 
 -- values are atoms
@@ -20,6 +20,7 @@ mutual
   pub value-atom : {v : Term} → Value v → atom v ≡ true
   value-atom v-fun = refl
   value-atom (v-con vs) = values-atoms vs
+  value-atom v-num = refl
 
   pub values-atoms : {vs : Terms} → Values vs → atoms vs ≡ true
   values-atoms v-nil = refl
@@ -35,6 +36,8 @@ passing-atom (call f ps) e = absurd (false≢true e)
 passing-atom (bind m b) e = absurd (false≢true e)
 passing-atom (con t ps) e = rw e
 passing-atom (cases m ps) e = absurd (false≢true e)
+passing-atom (num n) e = refl
+passing-atom (op o ps) e = absurd (false≢true e)
 
 -- "Constructor with n arguments, not an atom: the chain over the arguments"
 pub passing-build : (t : ℕ) (ps : Terms) → atoms ps ≡ false → passing (con t ps) ≡ lam (chain ps (making t (size ps)))

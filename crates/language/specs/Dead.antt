@@ -5,7 +5,7 @@ use mathlib.Core.Bool.{Bool, false, _||_}
 use mathlib.Core.List.{List, [], _∷_}
 use mathlib.Core.Option.{some, none as nothing}
 use mathlib.Core.Path.{_≡_}
-use Rattle.language.specs.Term.{Term, Terms, Arms, var, kvar, fun, call, bind, con, cases, nil, cons, none, arm, size}
+use Rattle.language.specs.Term.{Term, Terms, Arms, var, kvar, fun, call, bind, con, cases, num, op, nil, cons, none, arm, size}
 use Rattle.language.specs.Run.{Value, both, took}
 
 -- whether an arm with the tag t and the arity n is dead: one of the arms before it in its match, whose tags and arities are `before`, has "the same tag
@@ -42,6 +42,8 @@ mutual
     l-bind : {m b : Term} → Live m → Live b → Live (bind m b)
     l-con : {t : ℕ} {ps : Terms} → Liveᵗ ps → Live (con t ps)
     l-cases : {m : Term} {ps : Arms} → EachTaken ps → Live m → Liveᵃ ps → Live (cases m ps)
+    l-num : {n : ℕ} → Live (num n)
+    l-op : {o : ℕ} {ps : Terms} → Liveᵗ ps → Live (op o ps)
 
   pub data Liveᵗ : Terms → Type 0 where
     l-nil : Liveᵗ nil

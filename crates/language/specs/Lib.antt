@@ -1,4 +1,5 @@
 pub mod Term
+pub mod Setting
 pub mod Kinds
 pub mod Words
 pub mod Scope

@@ -1,18 +1,21 @@
 -- Reading a rule: document 01, "Checks in order". "the words are read from first to last, and the first fault met is the reply."
 -- A place is the index of a word. Document 02, Wish 1: "Refusals 3 to 8 shall carry the place of the word tested, counted from 0; 3 carries the
--- number of words given. All other refusals carry place 0."; and Wish 4: "18, with its place".
-use Prim.Native.Nat.{ℕ, zero, suc, _+_, _%_}
+-- number of words given. All other refusals carry place 0."; and Wish 4: "18, with its place". Wish 13: "every call on words is told" the version: S is
+-- what it is told besides the words.
+use Prim.Native.Nat.{ℕ, zero, suc, _+_, _*_, _%_}
 use mathlib.Core.Bool.{cond}
 use mathlib.Core.List.{List, [], _∷_, _++_}
 use lib.Dec.{ltb, leb, eqb}
 use lib.ListN.{length, getD}
 use Rattle.language.specs.declared.Parts.{Parts}
-use Rattle.language.specs.declared.Parts.the-variants.{Nothing, Body, FunctionAndArguments, BoundAndBody, CountAndArguments, SubjectAndArms, ArityAndBody}
+use Rattle.language.specs.declared.Parts.the-variants.{Nothing, Body, FunctionAndArguments, BoundAndBody, CountAndArguments, SubjectAndArms, ArityAndBody, HighAndLow, TwoParts}
 use Rattle.language.specs.declared.Row.{Row}
 use Rattle.language.specs.declared.Head.{Head}
 use Rattle.language.specs.declared.Head.the-variants.{Refused, Opens}
-use Rattle.language.specs.Term.{Term, Terms, Arms, var, fun, call, bind, con, cases, nil, cons, none, arm}
-use Rattle.language.specs.Kinds.{mostArguments, atTerm, atArm, headOf}
+use Rattle.language.specs.Term.{Term, Terms, Arms, var, fun, call, bind, con, cases, num, op, nil, cons, none, arm}
+use Rattle.language.specs.Setting.{Setting}
+use Rattle.language.specs.Kinds.{mostArguments, operands, known, atTerm, atArm, headOf}
+use Rattle.language.specs.Words.{wordEnd}
 use Rattle.language.specs.Limits.{deepest, mostWords}
 use Rattle.language.specs.Dead.{dead}
 
@@ -48,6 +51,10 @@ headed (Opens r) at g = g r
 unfoldable pub second : List ℕ → ℕ → Got ℕ
 second s at = word s at (λ w. cond (leb w mostArguments) (found w (at + 1)) (fault 5 at))
 
+-- a number's two words, "high first"; they "are tested for 3 only"
+unfoldable pub number : List ℕ → ℕ → Got ℕ
+number s at = word s at (λ h. word s (at + 1) (λ l. found (h * wordEnd + l) (at + 1 + 1)))
+
 -- k terms one after the other; p reads one
 unfoldable pub many : (ℕ → Got Term) → ℕ → ℕ → Got Terms
 many p zero at = found nil at
@@ -65,27 +72,30 @@ armOf s p q before n t at =
     then (unlike s before t at) (λ m to. then (p (n + m) to) (λ b past. made (arm t m b) (q (before ++ ((t, m) ∷ [])) past)))
 
 -- k arms one after the other, behind those that have the tags and arities `before`, under n source variables. "At an arm's head: 3, 4, 5."
-unfoldable pub armsOf : List ℕ → (ℕ → ℕ → Got Term) → List (ℕ × ℕ) → ℕ → ℕ → ℕ → Got Arms
-armsOf s p before n zero at = found none at
-armsOf s p before n (suc k) at =
-    word s at (λ w. headed (headOf atArm w) at (λ r. armOf s p (λ all. armsOf s p all n k) before n (w % 256) (at + 1)))
+unfoldable pub armsOf : Setting → List ℕ → (ℕ → ℕ → Got Term) → List (ℕ × ℕ) → ℕ → ℕ → ℕ → Got Arms
+armsOf S s p before n zero at = found none at
+armsOf S s p before n (suc k) at =
+    word s at (λ w. headed (headOf (S .version) atArm w) at (λ r. armOf s p (λ all. armsOf S s p all n k) before n (w % 256) (at + 1)))
 
 -- the term whose head, at a place, has the low byte a and these parts, and whose body has o source variables besides its arguments; it
 -- stands under n source variables, and p reads a part under so many. 7: "variable index not below the number of source variables bound there".
 -- An arm's parts are no term's: `headOf` refuses such a head before.
-unfoldable pub opened : List ℕ → (ℕ → ℕ → Got Term) → ℕ → ℕ → ℕ → ℕ → Parts → Got Term
-opened s p n at a o Nothing = cond (ltb a n) (found (var a) (at + 1)) (fault 7 at)
-opened s p n at a o Body = made (fun o a) (p (n + a + o) (at + 1))
-opened s p n at a o FunctionAndArguments = then (p n (at + 1)) (λ f to. made (call f) (many (p n) a to))
-opened s p n at a o BoundAndBody = then (p n (at + 1)) (λ m to. made (bind m) (p (n + o) to))
-opened s p n at a o CountAndArguments = then (second s (at + 1)) (λ m to. made (con a) (many (p n) m to))
-opened s p n at a o SubjectAndArms = then (p n (at + 1)) (λ m to. made (cases m) (armsOf s p [] n a to))
-opened s p n at a o ArityAndBody = fault 4 at
+unfoldable pub opened : Setting → List ℕ → (ℕ → ℕ → Got Term) → ℕ → ℕ → ℕ → ℕ → Parts → Got Term
+opened S s p n at a o Nothing = cond (ltb a n) (found (var a) (at + 1)) (fault 7 at)
+opened S s p n at a o Body = made (fun o a) (p (n + a + o) (at + 1))
+opened S s p n at a o FunctionAndArguments = then (p n (at + 1)) (λ f to. made (call f) (many (p n) a to))
+opened S s p n at a o BoundAndBody = then (p n (at + 1)) (λ m to. made (bind m) (p (n + o) to))
+opened S s p n at a o CountAndArguments = then (second s (at + 1)) (λ m to. made (con a) (many (p n) m to))
+opened S s p n at a o SubjectAndArms = then (p n (at + 1)) (λ m to. made (cases m) (armsOf S s p [] n a to))
+opened S s p n at a o ArityAndBody = fault 4 at
+opened S s p n at a o HighAndLow = made num (number s (at + 1))
+opened S s p n at a o TwoParts = made (op a) (many (p n) operands (at + 1))
 
 -- a term at a place, with d levels of depth left, under n source variables. "At a term's head the tests are 3, 6, 4, 5, 7."
-unfoldable pub term : List ℕ → ℕ → ℕ → ℕ → Got Term
-term s zero n at = word s at (λ w. fault 6 at)
-term s (suc d) n at = word s at (λ w. headed (headOf atTerm w) at (λ r. opened s (term s d) n at (w % 256) (r .binds) (r .parts)))
+unfoldable pub term : Setting → List ℕ → ℕ → ℕ → ℕ → Got Term
+term S s zero n at = word s at (λ w. fault 6 at)
+term S s (suc d) n at =
+    word s at (λ w. headed (headOf (S .version) atTerm w) at (λ r. opened S s (term S s d) n at (w % 256) (r .binds) (r .parts)))
 
 -- what reading a sequence of words as a rule comes to: its term, or the refusal's number and its place
 pub data Reading : Type 0 where
@@ -96,13 +106,16 @@ abbrev pub reading : Got Term → Reading
 reading (found t to) = accepted t
 reading (fault e p) = refused e p
 
--- "Lengths first: 1, then 2. Then the words are read from first to last": the closed term at a place, at full depth
-unfoldable pub closed : List ℕ → ℕ → Got Term
-closed s at = cond (eqb (length s) 0) (fault 1 noPlace) (cond (ltb mostWords (length s)) (fault 2 noPlace) (term s deepest 0 at))
+-- "Lengths first: 1, then 2. Then the words are read from first to last": the closed term at a place, at full depth. 11, "neither 1 nor 2", is tested "before 1"
+unfoldable pub closed : Setting → List ℕ → ℕ → Got Term
+closed S s at =
+    cond (known (S .version))
+    (cond (eqb (length s) 0) (fault 1 noPlace) (cond (ltb mostWords (length s)) (fault 2 noPlace) (term S s deepest 0 at)))
+    (fault 11 noPlace)
 
 -- "After the rule's last word: 8."; "words left over; the first of them is the word tested"
 unfoldable pub ended : List ℕ → Term → ℕ → Got Term
 ended s t to = cond (ltb to (length s)) (fault 8 to) (found t to)
 
-unfoldable pub read : List ℕ → Reading
-read s = reading (then (closed s 0) (ended s))
+unfoldable pub read : Setting → List ℕ → Reading
+read S s = reading (then (closed S s 0) (ended s))

@@ -1,14 +1,15 @@
 -- How a rule and an image run: document 01, "How a rule runs". One relation serves both languages: "Images run by the same rules with
 -- two numberings; a call there is one application."
-use Prim.Native.Nat.{ℕ, zero, suc, _+_}
+use Prim.Native.Nat.{ℕ, zero, suc, _+_, _-_, _%_, _^_}
 use mathlib.Core.Bool.{Bool, true, false, _&&_, cond}
 use mathlib.Core.Option.{Option, some, none as nothing}
 use mathlib.Core.Path.{_≡_}
-use lib.Dec.{eqb}
-use Rattle.language.specs.Term.{Lang, rules, images, Term, Terms, Arms, var, kvar, fun, call, bind, con, cases, nil, cons, none, arm, size}
+use lib.Dec.{eqb, ltb}
+use Rattle.language.specs.Term.{Lang, rules, images, Term, Terms, Arms, var, kvar, fun, call, bind, con, cases, num, op, nil, cons, none, arm, size}
 use Rattle.language.specs.Sub.{sub}
 
--- "An atom is a variable, a function, a recursive function, or a constructor whose arguments are all atoms."
+-- "An atom is a variable, a function, a recursive function, or a constructor whose arguments are all atoms." Document 02,
+-- Wish 13: "A number is an atom. An operation never is".
 unfoldable mutual
   pub atom : Term → Bool
   atom (var i) = true
@@ -18,6 +19,8 @@ unfoldable mutual
   atom (bind m b) = false
   atom (con t ps) = atoms ps
   atom (cases m ps) = false
+  atom (num n) = true
+  atom (op o ps) = false
 
   pub atoms : Terms → Bool
   atoms nil = true
@@ -28,6 +31,7 @@ mutual
   pub data Value : Term → Type 0 where
     v-fun : {o a : ℕ} {b : Term} → Value (fun o a b)
     v-con : {t : ℕ} {ps : Terms} → Values ps → Value (con t ps)
+    v-num : {n : ℕ} → Value (num n)
 
   pub data Values : Terms → Type 0 where
     v-nil : Values nil
@@ -66,11 +70,22 @@ unfoldable pub took : ℕ → ℕ → Arms → Option Term
 took t n none = nothing
 took t n (arm t' n' b ps) = cond (both t n t' n') (some b) (took t n ps)
 
+-- one more than the highest number: "modulo 2 to the 32"
+abbrev pub numberEnd : ℕ
+numberEnd = 2 ^ 32
+
+-- `Gives o vs v`: the operation o on the values vs gives v. Document 02, Wish 13: "0 adds, 1 subtracts, both modulo 2 to the 32, and 2 asks whether the first
+-- is less, giving tag 1 if so, else tag 0, without arguments". "An operation on anything but numbers has no value."
+pub data Gives : ℕ → Terms → Term → Type 0 where
+  adds : {a b : ℕ} → Gives 0 (cons (num a) (cons (num b) nil)) (num ((a + b) % numberEnd))
+  subtracts : {a b : ℕ} → Gives 1 (cons (num a) (cons (num b) nil)) (num ((a + (numberEnd - b)) % numberEnd))
+  less : {a b : ℕ} → Gives 2 (cons (num a) (cons (num b) nil)) (con (cond (ltb a b) 1 0) nil)
+
 -- `Run L t v`: by the rules of L the closed term t comes to the value v.
 -- taken: "A value comes to itself." built: "A constructor that is not an atom: each argument comes to a value; the result is the
 -- constructor of these". bound: "the bound term's value goes in for x_0 of the body." called: "the applied term comes to a function with
 -- exactly that many arguments, the arguments come to values, and the body runs with these (and itself, if recursive)." matched: "the subject
--- comes to a constructor value."
+-- comes to a constructor value." operated: the parts come to values, as a constructor's do, and the operation gives the result.
 mutual
   pub data Run (L : Lang) : Term → Term → Type 0 where
     taken : {v : Term} → Value v → Run L v v
@@ -80,13 +95,14 @@ mutual
         → Run L (sub 0 0 ks (rev xs (itself o (fun o a b))) b) w → Run L (call f ps) w
     matched : {m b w : Term} {t : ℕ} {vs : Terms} {ps : Arms} → Run L m (con t vs) → took t (size vs) ps ≡ some b
         → Run L (sub 0 0 nil (rev vs nil) b) w → Run L (cases m ps) w
+    operated : {o : ℕ} {ps vs : Terms} {v : Term} → Runs L ps vs → Gives o vs v → Run L (op o ps) v
 
   -- "Parts come to values in the order of their words"
   pub data Runs (L : Lang) : Terms → Terms → Type 0 where
     done : Runs L nil nil
     then : {t v : Term} {ts vs : Terms} → Run L t v → Runs L ts vs → Runs L (cons t ts) (cons v vs)
 
--- how often each rule is used: values taken whole, calls, lets, matches, and constructors built from unfinished parts
+-- how often each rule is used: values taken whole, calls, lets, matches, and constructors built from unfinished parts; an operation "counts as one" of these
 pub record Counts : Type 0 where
   pub values : ℕ
   pub calls : ℕ
@@ -109,6 +125,7 @@ unfoldable mutual
   count (bound r s) = uses 0 0 1 0 0 ⊕ count r ⊕ count s
   count (called f r e s) = uses 0 1 0 0 0 ⊕ count f ⊕ counts r ⊕ count s
   count (matched r k s) = uses 0 0 0 1 0 ⊕ count r ⊕ count s
+  count (operated r g) = uses 0 0 0 0 1 ⊕ counts r
 
   pub counts : {L : Lang} {ts vs : Terms} → Runs L ts vs → Counts
   counts done = uses 0 0 0 0 0

@@ -1,6 +1,6 @@
 -- Values put in for variables: document 01, "How a rule runs". "All values put in for variables are closed, so nothing is lifted."
 use Prim.Native.Nat.{ℕ, zero, suc, _+_}
-use Rattle.language.specs.Term.{Term, Terms, Arms, var, kvar, fun, call, bind, con, cases, nil, cons, none, arm}
+use Rattle.language.specs.Term.{Term, Terms, Arms, var, kvar, fun, call, bind, con, cases, num, op, nil, cons, none, arm}
 
 -- the i-th of the terms, or e past their end
 unfoldable pub nth : Terms → ℕ → Term → Term
@@ -27,6 +27,8 @@ unfoldable mutual
   sub dk dx ks xs (bind m b) = bind (sub dk dx ks xs m) (sub dk (suc dx) ks xs b)
   sub dk dx ks xs (con t ps) = con t (subᵗ dk dx ks xs ps)
   sub dk dx ks xs (cases m ps) = cases (sub dk dx ks xs m) (subᵃ dk dx ks xs ps)
+  sub dk dx ks xs (num n) = num n
+  sub dk dx ks xs (op o ps) = op o (subᵗ dk dx ks xs ps)
 
   pub subᵗ : ℕ → ℕ → Terms → Terms → Terms → Terms
   subᵗ dk dx ks xs nil = nil

@@ -5,14 +5,14 @@ use Prim.Native.Nat.{ℕ, zero, suc, _+_, _≤_}
 use mathlib.Core.Bool.{Bool, true, false, cond, _&&_}
 use mathlib.Core.Path.{_≡_, refl, ap, ap₂}
 use native.Mathlib.Omega.{arith}
-use Rattle.language.specs.Term.{rules, images, Term, Terms, Arms, var, kvar, fun, call, bind, con, cases, nil, cons, arm, size}
-use Rattle.language.specs.Scope.{Scoped, Scopedᵗ, Scopedᵃ, s-var, s-kvar, s-fun, s-call, s-bind, s-con, s-cases, s-nil, s-cons, s-none, s-arm}
+use Rattle.language.specs.Term.{rules, images, Term, Terms, Arms, var, kvar, fun, call, bind, con, cases, num, op, nil, cons, arm, size}
+use Rattle.language.specs.Scope.{Scoped, Scopedᵗ, Scopedᵃ, s-var, s-kvar, s-fun, s-call, s-bind, s-con, s-cases, s-num, s-op, s-nil, s-cons, s-none, s-arm}
 use Rattle.language.specs.Sub.{look, sub, subᵗ, subᵃ}
 use Rattle.language.specs.Run.{atom, atoms, Values, v-nil, v-cons}
 use Rattle.language.specs.Image.{lam, to, passing, carried, carrieds, chain, passingᵃ}
 use Rattle.language.proofs.Forms.{value-atom, passing-atom}
 use Rattle.meaning.proofs.Scopes.{keep}
-use Rattle.meaning.proofs.Forms.{calling-scoped, making-scoped, letting, matching}
+use Rattle.meaning.proofs.Forms.{calling-scoped, making-scoped, working-scoped, letting, matching}
 
 pub size-sub : (dk dx : ℕ) (ks xs ts : Terms) → size (subᵗ dk dx ks xs ts) ≡ size ts
 unfolding size subᵗ
@@ -48,6 +48,8 @@ mutual
   atom-sub (bind m b) xv dk dx = refl
   atom-sub (con t ps) xv dk dx = atoms-sub ps xv dk dx
   atom-sub (cases m ps) xv dk dx = refl
+  atom-sub (num n) xv dk dx = refl
+  atom-sub (op o ps) xv dk dx = refl
 
   pub atoms-sub : (ts : Terms) {xs : Terms} → Values xs → (dk dx : ℕ) → atoms (subᵗ dk dx nil xs ts) ≡ atoms ts
   atoms-sub nil xv dk dx = refl
@@ -96,6 +98,9 @@ module _ (ks xs : Terms) (xv : Values xs) where
     passing-sub (s-cases m ps) dk dx dk' dx' e =
         ap₂ (λ x y. lam (before x (matching y))) (passing-sub m dk dx (suc dk') (dx' + 0 + 0) (omega arith))
         (passingᵃ-sub ps dk dx dk' (dx' + 0 + 0 + 0 + 0) (omega arith))
+    passing-sub s-num dk dx dk' dx' e = refl
+    passing-sub (s-op {o} {ps} hs) dk dx dk' dx' e =
+        ap lam (rw (size-sub dk dx nil xs ps) (chain-sub hs (working-scoped o (size ps)) dk dx (suc dk') (dx' + 0 + 0) (omega arith) (omega arith)))
 
     pub carried-sub : {c d : ℕ} {t : Term} → Scoped rules c d t → (dk dx dk' dx' : ℕ) → dx' ≡ dx
         → sub dk' dx' ks (carrieds xs) (carried t) ≡ carried (sub dk dx nil xs t)
@@ -107,6 +112,8 @@ module _ (ks xs : Terms) (xv : Values xs) where
     carried-sub (s-bind m b) dk dx dk' dx' e = refl
     carried-sub (s-con {t} ps) dk dx dk' dx' e = ap (con t) (carrieds-sub ps dk dx dk' dx' e)
     carried-sub (s-cases m ps) dk dx dk' dx' e = refl
+    carried-sub s-num dk dx dk' dx' e = refl
+    carried-sub (s-op ps) dk dx dk' dx' e = refl
 
     pub carrieds-sub : {c d : ℕ} {ts : Terms} → Scopedᵗ rules c d ts → (dk dx dk' dx' : ℕ) → dx' ≡ dx
         → subᵗ dk' dx' ks (carrieds xs) (carrieds ts) ≡ carrieds (subᵗ dk dx nil xs ts)

@@ -3,7 +3,7 @@
 use Prim.Native.Nat.{ℕ, zero, suc, _+_}
 use mathlib.Core.Path.{_≡_, refl, ap, ap₂}
 use native.Mathlib.Omega.{arith}
-use Rattle.language.specs.Term.{Lang, Term, Terms, Arms, var, kvar, fun, call, bind, con, cases, nil, cons, none, arm, size}
+use Rattle.language.specs.Term.{Lang, Term, Terms, Arms, var, kvar, fun, call, bind, con, cases, num, op, nil, cons, none, arm, size}
 use Rattle.language.specs.Scope.{Scoped, Scopedᵗ, s-nil, s-cons}
 use Rattle.language.specs.Sub.{nth, look, sub, subᵗ, subᵃ}
 use Rattle.meaning.proofs.Scopes.{keep}
@@ -48,6 +48,8 @@ module _ (ks xs : Terms) {L : Lang} {ls ys : Terms} (lc : Scopedᵗ L 0 0 ls) (y
     sub-twice (bind m b) dk dx dk' dx' p q = ap₂ bind (sub-twice m dk dx dk' dx' p q) (sub-twice b dk (suc dx) dk' (suc dx') p (omega arith))
     sub-twice (con t ps) dk dx dk' dx' p q = ap (con t) (subᵗ-twice ps dk dx dk' dx' p q)
     sub-twice (cases m ps) dk dx dk' dx' p q = ap₂ cases (sub-twice m dk dx dk' dx' p q) (subᵃ-twice ps dk dx dk' dx' p q)
+    sub-twice (num n) dk dx dk' dx' p q = refl
+    sub-twice (op o ps) dk dx dk' dx' p q = ap (op o) (subᵗ-twice ps dk dx dk' dx' p q)
 
     pub subᵗ-twice : (ts : Terms) (dk dx dk' dx' : ℕ) → dk' ≡ dk + size ks → dx' ≡ dx + size xs
         → subᵗ dk dx ks xs (subᵗ dk' dx' ls ys ts) ≡ subᵗ dk dx (join ks ls) (join xs ys) ts

@@ -7,20 +7,20 @@ use mathlib.Core.Bool.{Bool, true, false, false≢true, and-eq-true-iff}
 use mathlib.Core.Path.{_≡_, refl, sym, _∙_, subst}
 use mathlib.Core.Option.{Option, some, none as nothing}
 use native.Mathlib.Omega.{arith}
-use Rattle.language.specs.Term.{rules, images, Term, Terms, Arms, var, kvar, fun, call, bind, con, cases, nil, cons, size}
-use Rattle.language.specs.Scope.{Scoped, Scopedᵗ, Scopedᵃ, s-var, s-kvar, s-fun, s-call, s-bind, s-con, s-cases, s-nil, s-cons}
+use Rattle.language.specs.Term.{rules, images, Term, Terms, Arms, var, kvar, fun, call, bind, con, cases, num, op, nil, cons, size}
+use Rattle.language.specs.Scope.{Scoped, Scopedᵗ, Scopedᵃ, s-var, s-kvar, s-fun, s-call, s-bind, s-con, s-cases, s-num, s-op, s-nil, s-cons}
 use Rattle.language.specs.Sub.{sub, subᵃ}
-use Rattle.language.specs.Run.{atom, atoms, Value, Values, v-fun, v-con, v-nil, v-cons, enters, rev, took, count}
-use Rattle.language.specs.Run.{Run, Runs, taken, built, bound, called, matched, done, then}
-use Rattle.language.specs.Image.{lam, to, calling, passing, carried, carrieds, chain, passingᵃ, image}
+use Rattle.language.specs.Run.{atom, atoms, Value, Values, v-fun, v-con, v-num, v-nil, v-cons, Gives, adds, subtracts, less, enters, rev, took, count}
+use Rattle.language.specs.Run.{Run, Runs, taken, built, bound, called, matched, operated, done, then}
+use Rattle.language.specs.Image.{lam, to, calling, working, passing, carried, carrieds, chain, passingᵃ, image}
 use Rattle.language.proofs.Forms.{size-carrieds, counted-fits}
-use Rattle.language.proofs.Back.{uncalled, entered-fits, no-call, Chosen, unmatched, no-match}
-use Rattle.language.proofs.Eval.{Ran, Rans}
+use Rattle.language.proofs.Back.{uncalled, argument-comes, entered-fits, no-call, no-call-num, Chosen, unmatched, no-match, no-match-num, unoperated}
+use Rattle.language.proofs.Eval.{Ran, Rans, Given}
 use Rattle.meaning.proofs.Forms.{letting, matching, k-scoped, carrieds-values, carried-scoped}
 use Rattle.meaning.proofs.Values.{run-value, runs-values, runs-size}
 use Rattle.meaning.proofs.Values.{let-scoped, arm-scoped, call-scoped, run-scoped, runs-scoped}
-use Rattle.meaning.proofs.Steps.{Leads, fewer, stay, enter, calling-sub, took-image, end-called, end-bound, end-matched}
-use Rattle.meaning.proofs.Simulation.{chain-k, chain-step, Linked, linked-build, linked-let, linked-call, linked-match, through, simulated, simulatedᵗ}
+use Rattle.meaning.proofs.Steps.{Leads, fewer, stay, enter, calling-sub, working-sub, took-image, end-called, end-bound, end-matched}
+use Rattle.meaning.proofs.Simulation.{chain-k, chain-step, Linked, linked-build, linked-let, linked-call, linked-match, linked-op, through, simulated, simulatedᵗ}
 
 -- the image t comes to w by fewer than g calls
 record Under (t w : Term) (g : ℕ) : Type 0 where
@@ -43,6 +43,8 @@ mutual
   closed-value (s-bind m b) z e = absurd (false≢true e)
   closed-value (s-con ps) z e = v-con (closed-values ps z e)
   closed-value (s-cases m ps) z e = absurd (false≢true e)
+  closed-value s-num z e = v-num
+  closed-value (s-op ps) z e = absurd (false≢true e)
 
   closed-values : {c d : ℕ} {ts : Terms} → Scopedᵗ rules c d ts → d ≡ 0 → atoms ts ≡ true → Values ts
   closed-values s-nil z e = v-nil
@@ -103,6 +105,7 @@ call-back {f} {p} {w} {ps} {g} back hf hs hp (then {vs} r rs) u = go (run-value 
     go : {v : Term} → Value v → Run rules f v → Scoped rules 0 0 v
         → Under (sub 0 0 (rev (carrieds vs) (cons (carried v) (cons (lam p) nil))) nil (calling (size ps))) w g → Ran rules (call f ps)
     go (v-con {t} {ps = qs} vv) r hv u = absurd (no-call (carrieds-values vv) (rw (ending (con t qs)) at (u .run)))
+    go (v-num {n}) r hv u = absurd (no-call-num (rw (ending (num n)) at (u .run)))
     go (v-fun {o} {a} {b}) r hv u =
         let entered = uncalled (v-cons v-fun (carrieds-values (runs-values rs))) (rw (ending (fun o a b)) at (u .run)) in
         let n : size vs ≡ a = sym (size-carrieds vs) ∙ entered-fits images o (to (passing b) (kvar 0)) w a (cons (lam p) nil) (carrieds vs) entered in
@@ -130,6 +133,7 @@ match-back {m} {p} {w} {ps} {g} back hm hs hp (then r done) u = go (run-value r)
     go : {v : Term} → Value v → Run rules m v → Scoped rules 0 0 v
         → Under (sub 0 0 (cons (carried v) (cons (lam p) nil)) nil (matching (passingᵃ ps))) w g → Ran rules (cases m ps)
     go v-fun r hv u = absurd (no-match (u .run))
+    go v-num r hv u = absurd (no-match-num (u .run))
     go (v-con {t} {ps = vs} vv) r hv u = arm-back vv r hv u (took t (size vs) ps) refl
 
 -- a constructor is a value, or is built of what its parts come to
@@ -137,6 +141,23 @@ con-back : {p w : Term} {t : ℕ} {ps : Terms} {g : ℕ} → Back g → (e : Boo
     → Under (to (passing (con t ps)) (lam p)) w (suc g) → Ran rules (con t ps)
 con-back back true e hs hp u = record { value = _; run = taken (v-con (closed-values hs refl e)) }
 con-back {t} back false e hs hp u = let r = parts-back back (linked-build t e) hs hp u .0 in record { value = con t (r .values); run = built e (r .runs) }
+
+-- an operation on carried forms is the operation on the values
+ungive : {o : ℕ} {vs : Terms} {w : Term} → Values vs → Gives o (carrieds vs) w → Given o vs
+unfolding carried
+ungive (v-cons v-num (v-cons v-num v-nil)) adds = record { result = _; gives = adds }
+ungive (v-cons v-num (v-cons v-num v-nil)) subtracts = record { result = _; gives = subtracts }
+ungive (v-cons v-num (v-cons v-num v-nil)) less = record { result = _; gives = less }
+
+-- the ending hands the operation on the carried forms to the continuation, so that it gives something
+op-back : (p : Term) {w : Term} {o : ℕ} {ps vs : Terms} → Runs rules ps vs → Run images (sub 0 0 (rev (carrieds vs) (cons (lam p) nil)) nil (working o (size ps))) w
+    → Ran rules (op o ps)
+op-back p {w} {o} {ps} {vs} rs u =
+    let ending : sub 0 0 (rev (carrieds vs) (cons (lam p) nil)) nil (working o (size ps)) ≡ to (lam p) (op o (carrieds vs))
+    = rw (← (runs-size rs), ← (size-carrieds vs)) (working-sub o (carrieds vs) (lam p)) in
+    let (v, r) = argument-comes (rw ending at u) in
+    let x = ungive (runs-values rs) (unoperated (carrieds-values (runs-values rs)) r) in
+    record { value = x .result; run = operated rs (x .gives) }
 
 back : (g : ℕ) → Back g
 back zero t p w h hp u = absurd (omega (arith, u .below))
@@ -147,6 +168,8 @@ back (suc g) (call f ps) p w (s-call hf hs) hp u = let (r, k) = parts-back (back
 back (suc g) (bind m b) p w (s-bind hm hb) hp u = let (r, k) = parts-back (back g) (linked-let m hb) (s-cons hm s-nil) hp u in let-back (back g) hm hb hp (r .runs) k
 back (suc g) (con t ps) p w (s-con hs) hp u = con-back (back g) (atoms ps) refl hs hp u
 back (suc g) (cases m ps) p w (s-cases hm hs) hp u = let (r, k) = parts-back (back g) (linked-match m hs) (s-cons hm s-nil) hp u in match-back (back g) hm hs hp (r .runs) k
+back (suc g) (num n) p w h hp u = record { value = num n; run = taken v-num }
+back (suc g) (op o ps) p w (s-op hs) hp u = let (r, k) = parts-back (back g) (linked-op o ps) hs hp u in op-back p (r .runs) (k .run)
 
 -- the image gives the passing form the continuation that returns its argument
 pub rule-comes : {t w : Term} → Scoped rules 0 0 t → Run images (image t) w → Ran rules t

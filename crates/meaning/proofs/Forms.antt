@@ -4,9 +4,9 @@ use Prim.Native.Nat.{ℕ, zero, suc, _+_, _≤_, _<_}
 use mathlib.Core.Bool.{Bool, true, false, cond}
 use native.Mathlib.Omega.{arith}
 use Rattle.language.specs.Term.{Lang, rules, images, Term, Terms, Arms, kvar, fun, bind, cases, size}
-use Rattle.language.specs.Scope.{Scoped, Scopedᵗ, Scopedᵃ, s-var, s-kvar, s-fun, s-call, s-bind, s-con, s-cases, s-nil, s-cons, s-none, s-arm}
-use Rattle.language.specs.Run.{atoms, Value, Values, v-fun, v-con, v-nil, v-cons}
-use Rattle.language.specs.Image.{to, downto, calling, making, passing, carried, carrieds, chain, passingᵃ}
+use Rattle.language.specs.Scope.{Scoped, Scopedᵗ, Scopedᵃ, s-var, s-kvar, s-fun, s-call, s-bind, s-con, s-cases, s-num, s-op, s-nil, s-cons, s-none, s-arm}
+use Rattle.language.specs.Run.{atoms, Value, Values, v-fun, v-con, v-num, v-nil, v-cons}
+use Rattle.language.specs.Image.{to, downto, calling, making, working, passing, carried, carrieds, chain, passingᵃ}
 use Rattle.meaning.proofs.Scopes.{widen}
 
 mutual
@@ -15,6 +15,7 @@ mutual
   pub carried-value : {v : Term} → Value v → Value (carried v)
   carried-value v-fun = v-fun
   carried-value (v-con vs) = v-con (carrieds-values vs)
+  carried-value v-num = v-num
 
   pub carrieds-values : {vs : Terms} → Values vs → Values (carrieds vs)
   carrieds-values v-nil = v-nil
@@ -41,6 +42,9 @@ calling-scoped n =
 
 pub making-scoped : (t n : ℕ) → Scoped images (suc n) 0 (making t n)
 making-scoped t n = to-scoped (k-scoped n (suc n) 0 (omega arith)) (s-con (downto-scoped n (suc n) (omega arith)))
+
+pub working-scoped : (o n : ℕ) → Scoped images (suc n) 0 (working o n)
+working-scoped o n = to-scoped (k-scoped n (suc n) 0 (omega arith)) (s-op (downto-scoped n (suc n) (omega arith)))
 
 -- how the passing form of a let ends, x being the body's; of a match, ps being the arms
 abbrev pub letting : Term → Term
@@ -91,6 +95,8 @@ mutual
   passing-scoped (s-cases m ps) c' d' e =
       s-fun (to-scoped (passing-scoped m (suc c') (same d') (omega arith))
       (s-fun (matching-scoped c' (same (same d')) (passingᵃ-scoped ps c' (same (same d')) (omega arith)))))
+  passing-scoped s-num c' d' e = s-fun (handing-scoped c' (same d') s-num)
+  passing-scoped (s-op {o} {ps} hs) c' d' e = s-fun (chain-scoped hs (working-scoped o (size ps)) (suc c') (same d') (omega arith) (omega arith))
 
   pub carried-scoped : {c d : ℕ} {t : Term} → Scoped rules c d t → (c' d' : ℕ) → d ≤ d' → Scoped images c' d' (carried t)
   carried-scoped (s-var {i} h) c' d' e = s-var {d = d'} {i = i} (omega arith)
@@ -100,6 +106,8 @@ mutual
   carried-scoped (s-bind m b) c' d' e = s-con s-nil
   carried-scoped (s-con ps) c' d' e = s-con (carrieds-scoped ps c' d' e)
   carried-scoped (s-cases m ps) c' d' e = s-con s-nil
+  carried-scoped s-num c' d' e = s-num
+  carried-scoped (s-op ps) c' d' e = s-con s-nil
 
   pub carrieds-scoped : {c d : ℕ} {ts : Terms} → Scopedᵗ rules c d ts → (c' d' : ℕ) → d ≤ d' → Scopedᵗ images c' d' (carrieds ts)
   carrieds-scoped s-nil c' d' e = s-nil

@@ -2,13 +2,14 @@
 use Prim.Native.Nat.{ℕ}
 use mathlib.Core.Path.{_≡_, refl, sym, ap, ap₂, _∙_}
 use mathlib.Core.Logic.{_↔_}
+use native.Mathlib.Omega.{arith}
 use Rattle.language.specs.Term.{rules, Term, Terms, con, cons}
 use Rattle.language.specs.Scope.{Scoped}
 use Rattle.language.specs.Image.{carried, carrieds, image}
 use Rattle.language.proofs.Determinism.{same-run}
-use Rattle.trust.proofs.Accepted.{accepted-rule, accepted-are-rules}
+use Rattle.trust.proofs.Accepted.{accepted-closed, accepted-length}
 use Rattle.sizes.proofs.Promises.{seven-times}
-use Rattle.meaning.specs.Promises.{Plain, Plainᵗ, p-con, p-nil, p-cons, PlainIsCarried, RunsAreDetermined, Demand3, Demand3OfWords}
+use Rattle.meaning.specs.Promises.{Plain, Plainᵗ, p-con, p-num, p-nil, p-cons, PlainIsCarried, RunsAreDetermined, Demand3, Demand3OfWords}
 use Rattle.meaning.specs.Promises.{Comes, Finishes, FromRule, Converse, ConverseOfWords, ExactlyWhen, NoDecision, SevenTimesOfWords}
 use Rattle.meaning.proofs.Values.{run-value}
 use Rattle.meaning.proofs.Steps.{adjust}
@@ -21,6 +22,7 @@ mutual
 
   plain-carried : {v : Term} → Plain v → carried v ≡ v
   plain-carried (p-con {t} ps) = ap (con t) (plain-carrieds ps)
+  plain-carried p-num = refl
 
   plain-carrieds : {vs : Terms} → Plainᵗ vs → carrieds vs ≡ vs
   plain-carrieds p-nil = refl
@@ -38,7 +40,7 @@ demand3 t v h r =
     record { comes = c; plainly = λ p. rw (plain-carried p) at c; always = λ w s. same-run s (c .run) }
 
 pub demand3-of-words : Demand3OfWords
-demand3-of-words ws t v e r = demand3 t v ((accepted-rule ws t e) .closed) r
+demand3-of-words S ws t v e r = demand3 t v (accepted-closed S ws t e) r
 
 -- an image comes to one value, with one number of calls, of lets and of matches
 same-numbers : {t w w' : Term} {n l m n' l' m' : ℕ} → Comes t w n l m → Comes t w' n' l' m' → (w ≡ w') × (n ≡ n') × (l ≡ l') × (m ≡ m')
@@ -59,7 +61,7 @@ converse t w n l m h s =
     (r .value, sym same, record { run = r .run; in-calls = in-calls; in-lets = in-lets; in-matches = in-matches })
 
 pub converse-of-words : ConverseOfWords
-converse-of-words ws t w n l m e s = converse t w n l m ((accepted-rule ws t e) .closed) s
+converse-of-words S ws t w n l m e s = converse t w n l m (accepted-closed S ws t e) s
 
 -- both halves, for whatever the image comes to
 pub both-ways : (t w : Term) (n l m : ℕ) → Scoped rules 0 0 t → FromRule t w n l m ↔ Comes (image t) w n l m
@@ -70,13 +72,13 @@ both-ways t w n l m h = (ahead, converse t w n l m h)
 
 -- for the carried form of v the value that the rule comes to is v, as both have that carried form
 pub exactly-when : ExactlyWhen
-exactly-when ws t v n l m e x = let p = both-ways t (carried v) n l m ((accepted-rule ws t e) .closed) in (λ f. p .0 (v, refl, f), λ s. back (p .1 s))
+exactly-when S ws t v n l m e x = let p = both-ways t (carried v) n l m (accepted-closed S ws t e) in (λ f. p .0 (v, refl, f), λ s. back (p .1 s))
   where
     back : FromRule t (carried v) n l m → Finishes t v n l m
     back (v', same, f) = rw (same-carried x (run-value (f .run)) same) f
 
 pub no-decision : NoDecision
-no-decision ws t e none w s = let r = rule-comes ((accepted-rule ws t e) .closed) s in none (r .value) (r .run)
+no-decision S ws t e none w s = let r = rule-comes (accepted-closed S ws t e) s in none (r .value) (r .run)
 
 pub seven-times-of-words : SevenTimesOfWords
-seven-times-of-words ws t e = rw (accepted-are-rules ws t e .0) (seven-times t)
+seven-times-of-words S ws t e = omega (arith, accepted-length S ws t e .0, seven-times t)

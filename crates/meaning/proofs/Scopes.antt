@@ -3,8 +3,8 @@
 use Prim.Native.Nat.{ℕ, zero, suc, _+_, _≤_, _<_}
 use mathlib.Core.Path.{_≡_, refl, ap, ap₂}
 use native.Mathlib.Omega.{arith}
-use Rattle.language.specs.Term.{Lang, Term, Terms, Arms, var, kvar, fun, call, bind, con, cases, cons, arm, size}
-use Rattle.language.specs.Scope.{HasK, Scoped, Scopedᵗ, Scopedᵃ, s-var, s-kvar, s-fun, s-call, s-bind, s-con, s-cases, s-nil, s-cons, s-none, s-arm}
+use Rattle.language.specs.Term.{Lang, Term, Terms, Arms, var, kvar, fun, call, bind, con, cases, num, op, cons, arm, size}
+use Rattle.language.specs.Scope.{HasK, Scoped, Scopedᵗ, Scopedᵃ, s-var, s-kvar, s-fun, s-call, s-bind, s-con, s-cases, s-num, s-op, s-nil, s-cons, s-none, s-arm}
 use Rattle.language.specs.Sub.{look, sub, subᵗ, subᵃ}
 
 -- a term may stand where more variables are bound
@@ -17,6 +17,8 @@ mutual
   widen (s-bind m b) c' d' p q = s-bind (widen m c' d' p q) (widen b c' (suc d') p (omega arith))
   widen (s-con ps) c' d' p q = s-con (widenᵗ ps c' d' p q)
   widen (s-cases m ps) c' d' p q = s-cases (widen m c' d' p q) (widenᵃ ps c' d' p q)
+  widen s-num c' d' p q = s-num
+  widen (s-op ps) c' d' p q = s-op (widenᵗ ps c' d' p q)
 
   pub widenᵗ : {L : Lang} {c d : ℕ} {ts : Terms} → Scopedᵗ L c d ts → (c' d' : ℕ) → c ≤ c' → d ≤ d' → Scopedᵗ L c' d' ts
   widenᵗ s-nil c' d' p q = s-nil
@@ -46,6 +48,8 @@ module _ (ks xs : Terms) where
     keep (s-bind m b) dk dx p q = ap₂ bind (keep m dk dx p q) (keep b dk (suc dx) p (omega arith))
     keep (s-con {t} ps) dk dx p q = ap (con t) (keepᵗ ps dk dx p q)
     keep (s-cases m ps) dk dx p q = ap₂ cases (keep m dk dx p q) (keepᵃ ps dk dx p q)
+    keep s-num dk dx p q = refl
+    keep (s-op {o} ps) dk dx p q = ap (op o) (keepᵗ ps dk dx p q)
 
     pub keepᵗ : {L : Lang} {c d : ℕ} {ts : Terms} → Scopedᵗ L c d ts → (dk dx : ℕ) → c ≤ dk → d ≤ dx → subᵗ dk dx ks xs ts ≡ ts
     keepᵗ s-nil dk dx p q = refl
@@ -79,6 +83,8 @@ module _ {L : Lang} {ks xs : Terms} (kc : Scopedᵗ L 0 0 ks) (xc : Scopedᵗ L 
     sub-scoped (s-bind m b) dk dx p q = s-bind (sub-scoped m dk dx p q) (sub-scoped b dk (suc dx) p (omega arith))
     sub-scoped (s-con ps) dk dx p q = s-con (subᵗ-scoped ps dk dx p q)
     sub-scoped (s-cases m ps) dk dx p q = s-cases (sub-scoped m dk dx p q) (subᵃ-scoped ps dk dx p q)
+    sub-scoped s-num dk dx p q = s-num
+    sub-scoped (s-op ps) dk dx p q = s-op (subᵗ-scoped ps dk dx p q)
 
     pub subᵗ-scoped : {c d : ℕ} {ts : Terms} → Scopedᵗ L c d ts → (dk dx : ℕ) → (HasK L → c ≤ dk + size ks) → d ≤ dx + size xs
         → Scopedᵗ L dk dx (subᵗ dk dx ks xs ts)

@@ -6,21 +6,21 @@ use mathlib.Core.Bool.{false}
 use mathlib.Core.Path.{_≡_, refl}
 use mathlib.Core.Option.{some}
 use native.Mathlib.Omega.{arith}
-use Rattle.language.specs.Term.{rules, images, Term, Terms, Arms, kvar, fun, call, bind, con, cases, nil, cons, size}
-use Rattle.language.specs.Scope.{Scoped, Scopedᵗ, Scopedᵃ, s-fun, s-call, s-bind, s-con, s-cases, s-nil, s-cons}
+use Rattle.language.specs.Term.{rules, images, Term, Terms, Arms, kvar, fun, call, bind, con, cases, op, nil, cons, size}
+use Rattle.language.specs.Scope.{Scoped, Scopedᵗ, Scopedᵃ, s-fun, s-call, s-bind, s-con, s-cases, s-op, s-nil, s-cons}
 use Rattle.language.specs.Sub.{sub}
-use Rattle.language.specs.Run.{atoms, Value, Values, v-fun, enters, rev, itself, took, Counts, uses, _⊕_, count, counts}
-use Rattle.language.specs.Run.{Run, Runs, taken, built, bound, called, matched, done, then}
-use Rattle.language.specs.Image.{lam, to, calling, making, passing, carried, carrieds, chain, passingᵃ, image}
+use Rattle.language.specs.Run.{atoms, Value, Values, v-fun, Gives, enters, rev, itself, took, Counts, uses, _⊕_, count, counts}
+use Rattle.language.specs.Run.{Run, Runs, taken, built, bound, called, matched, operated, done, then}
+use Rattle.language.specs.Image.{lam, to, calling, making, working, passing, carried, carrieds, chain, passingᵃ, image}
 use Rattle.language.proofs.Forms.{passing-build, counted-is}
 use Rattle.meaning.specs.Promises.{applications, Comes}
 use Rattle.meaning.proofs.Scopes.{sub-scoped}
 use Rattle.meaning.proofs.Compose.{join, sub-twice}
-use Rattle.meaning.proofs.Forms.{letting, matching, k-scoped, calling-scoped, making-scoped, letting-scoped, matching-scoped}
+use Rattle.meaning.proofs.Forms.{letting, matching, k-scoped, calling-scoped, making-scoped, working-scoped, letting-scoped, matching-scoped}
 use Rattle.meaning.proofs.Forms.{carried-value, carried-scoped, passing-scoped, passingᵃ-scoped, chain-scoped}
 use Rattle.meaning.proofs.Values.{run-value, runs-values, runs-size, in-values}
 use Rattle.meaning.proofs.Values.{let-scoped, arm-scoped, call-scoped, run-scoped, runs-scoped}
-use Rattle.meaning.proofs.Steps.{Leads, onward, recount, stays, adjust, stay, enter, on-value, end-built, end-called, end-bound, end-matched}
+use Rattle.meaning.proofs.Steps.{Leads, onward, recount, stays, adjust, stay, enter, on-value, end-built, end-operated, end-called, end-bound, end-matched}
 
 -- the image of a run of t to v with the counts c: t's passing form, given a continuation `lam p`, goes on as what the continuation is when it is
 -- given v's carried form
@@ -87,6 +87,10 @@ pub linked-match : (m : Term) {ps : Arms} → Scopedᵃ rules 0 0 ps → Linked 
 unfolding passing size
 linked-match m hs = record { passes = refl; ends = matching-scoped 0 0 (passingᵃ-scoped hs 0 0 (omega arith)) }
 
+pub linked-op : (o : ℕ) (ps : Terms) → Linked (op o ps) ps (working o (size ps))
+unfolding passing
+linked-op o ps = record { passes = refl; ends = working-scoped o (size ps) }
+
 -- the passing form is given the continuation, the parts come to values, and the ending is left
 pub through : {t z p : Term} {ts vs : Terms} {c : Counts} → Linked t ts z → Simulatedᵗ ts vs c → Scoped images 1 0 p
     → Leads (to (passing t) (lam p)) (sub 0 0 (rev (carrieds vs) (cons (lam p) nil)) nil z) (suc (applications c)) (c .lets) (c .matches)
@@ -102,6 +106,10 @@ sim-taken x h = record { given = λ p hp. on-value x h }
 sim-built : {t : ℕ} {ps vs : Terms} {c : Counts} → atoms ps ≡ false → size vs ≡ size ps → Values vs
     → Simulatedᵗ ps vs c → Simulated (con t ps) (con t vs) (uses 0 0 0 0 1 ⊕ c)
 sim-built {t} {vs} e q vv ss = record { given = λ p hp. recount (onward (through (linked-build t e) ss hp) (end-built p t vs q vv)) (omega arith) }
+
+sim-operated : {o : ℕ} {v : Term} {ps vs : Terms} {c : Counts} → size vs ≡ size ps → Values vs → Gives o vs v
+    → Simulatedᵗ ps vs c → Simulated (op o ps) v (uses 0 0 0 0 1 ⊕ c)
+sim-operated {o} {ps = ps} {vs} q vv g ss = record { given = λ p hp. recount (onward (through (linked-op o ps) ss hp) (end-operated p o vs q vv g)) (omega arith) }
 
 sim-bound : {m b v w : Term} {c d : Counts} → Scoped rules 0 0 m → Scoped rules 0 1 b → Scoped rules 0 0 v → Value v
     → Simulated m v c → Simulated (sub 0 0 nil (cons v nil) b) w d → Simulated (bind m b) w (uses 0 0 1 0 0 ⊕ c ⊕ d)
@@ -146,6 +154,7 @@ mutual
   simulated (matched r k s) (s-cases hm hs) =
       let hv = run-scoped r hm in
       sim-matched hm hs hv (in-values (run-value r)) k (simulated r hm) (simulated s (arm-scoped k hs hv))
+  simulated (operated r g) (s-op hs) = sim-operated (runs-size r) (runs-values r) g (simulatedᵗ r hs)
 
   pub simulatedᵗ : {ts vs : Terms} (r : Runs rules ts vs) → Scopedᵗ rules 0 0 ts → Simulatedᵗ ts vs (counts r)
   simulatedᵗ done s-nil = sim-done

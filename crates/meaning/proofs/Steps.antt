@@ -6,20 +6,20 @@ use mathlib.Core.Bool.{Bool, true, false, cond}
 use mathlib.Core.Option.{some, Option·map}
 use mathlib.Core.Path.{_≡_, refl, ap, ap₂, _∙_, subst}
 use native.Mathlib.Omega.{arith}
-use Rattle.language.specs.Term.{Lang, rules, images, Term, Terms, Arms, kvar, fun, call, bind, con, cases, nil, cons, size}
+use Rattle.language.specs.Term.{Lang, rules, images, Term, Terms, Arms, kvar, fun, call, bind, con, cases, op, nil, cons, size}
 use Rattle.language.specs.Scope.{Scoped, Scopedᵃ, s-none, s-arm}
 use Rattle.language.specs.Sub.{look, sub, subᵗ, subᵃ}
-use Rattle.language.specs.Run.{Value, Values, v-fun, v-con, v-nil, v-cons, enters, rev, itself, both, took}
-use Rattle.language.specs.Run.{Run, taken, bound, called, matched, then, Counts, count, counts}
-use Rattle.language.specs.Image.{lam, to, downto, calling, making, passing, carried, carrieds, passingᵃ}
+use Rattle.language.specs.Run.{Value, Values, v-fun, v-con, v-nil, v-cons, Gives, enters, rev, itself, both, took}
+use Rattle.language.specs.Run.{Run, taken, bound, called, matched, operated, done, then, Counts, count, counts}
+use Rattle.language.specs.Image.{lam, to, downto, calling, making, working, passing, carried, carrieds, passingᵃ}
 use Rattle.language.proofs.Forms.{value-atom, size-carrieds, passing-atom, itself-values, counted-fits}
 use Rattle.language.proofs.Determinism.{same-run}
-use Rattle.language.proofs.Back.{taken-all, Entered, uncalled, unbound, Chosen, unmatched}
+use Rattle.language.proofs.Back.{taken-all, Entered, uncalled-by, uncalled, unbound, Chosen, unmatched}
 use Rattle.meaning.specs.Promises.{Comes}
 use Rattle.meaning.proofs.Scopes.{keep}
 use Rattle.meaning.proofs.Forms.{carried-value, carrieds-values, carried-scoped, passing-scoped, letting, matching}
 use Rattle.meaning.proofs.Commute.{passing-sub}
-use Rattle.meaning.proofs.Values.{rev-values, carrieds-rev, carrieds-itself, in-fun, in-arms}
+use Rattle.meaning.proofs.Values.{gives-carried, rev-values, carrieds-rev, carrieds-itself, in-fun, in-arms}
 
 -- so many calls, lets and matches
 abbrev Counted : Counts → ℕ → ℕ → ℕ → Type 0
@@ -90,6 +90,14 @@ pub enter : {b k : Term} → Value k → Leads (to (lam b) k) (sub 0 0 (cons k n
 unfolding size rev itself
 enter kv = applying {ws = nil} kv v-nil refl
 
+-- or is given what an operation on values gives
+operating : {b v : Term} {o : ℕ} {vs : Terms} → Values vs → Gives o vs v → Leads (to (lam b) (op o vs)) (sub 0 0 (cons v nil) nil b) 1 0 0
+unfolding enters count size rev itself
+operating {b} {v} vv g = record {
+  ahead = λ w s. comes (called (taken v-fun) (then (operated (taken-all vv) g) done) (counted-fits 0 (cons v nil) nil refl) s) (omega (arith, taken-free images vv));
+  back = λ w r. subst (Entered images 0 0 b w) (counted-fits 0 (cons v nil) nil refl) (uncalled-by (then (operated (taken-all vv) g) done) r);
+}
+
 -- what is closed stays as it is; so does the passing form of a term that names no variable put in for
 pub shut : {t : Term} → Scoped images 0 0 t → (ks xs : Terms) (dk dx : ℕ) → sub dk dx ks xs t ≡ t
 shut h ks xs dk dx = keep ks xs h dk dx (omega arith) (omega arith)
@@ -121,7 +129,7 @@ unfolding rev size subᵗ downto
 downto-sub nil acc = refl
 downto-sub (cons w ws) acc = ap₂ cons (look-rev ws (cons w acc) (size ws) 0 (kvar (size ws)) (omega arith)) (downto-sub ws (cons w acc))
 
--- what the endings of a call and of a constructor become
+-- what the endings of a call, of a constructor and of an operation become
 pub calling-sub : (ws : Terms) (f k : Term) → sub 0 0 (rev ws (cons f (cons k nil))) nil (calling (size ws)) ≡ call f (cons k ws)
 unfolding sub
 calling-sub ws f k =
@@ -132,11 +140,20 @@ pub making-sub : (t : ℕ) (ws : Terms) (k : Term) → sub 0 0 (rev ws (cons k n
 unfolding sub
 making-sub t ws k = ap₂ (λ x y. to x (con t y)) (look-rev ws (cons k nil) (size ws) 0 (kvar (size ws)) (omega arith)) (downto-sub ws (cons k nil))
 
+pub working-sub : (o : ℕ) (ws : Terms) (k : Term) → sub 0 0 (rev ws (cons k nil)) nil (working o (size ws)) ≡ to k (op o ws)
+unfolding sub
+working-sub o ws k = ap₂ (λ x y. to x (op o y)) (look-rev ws (cons k nil) (size ws) 0 (kvar (size ws)) (omega arith)) (downto-sub ws (cons k nil))
+
 -- the ending of a constructor: the continuation is given the constructor of the values
 pub end-built : (p : Term) (t : ℕ) (vs : Terms) {i : ℕ} → size vs ≡ i → Values vs
     → Leads (sub 0 0 (rev (carrieds vs) (cons (lam p) nil)) nil (making t i)) (sub 0 0 (cons (carried (con t vs)) nil) nil p) 1 0 0
 unfolding carried
 end-built p t vs e vv = rw (← e, ← (size-carrieds vs), making-sub t (carrieds vs) (lam p)) (enter (v-con (carrieds-values vv)))
+
+-- the ending of an operation: the continuation is given what the operation gives
+pub end-operated : (p : Term) (o : ℕ) (vs : Terms) {v : Term} {i : ℕ} → size vs ≡ i → Values vs → Gives o vs v
+    → Leads (sub 0 0 (rev (carrieds vs) (cons (lam p) nil)) nil (working o i)) (sub 0 0 (cons (carried v) nil) nil p) 1 0 0
+end-operated p o vs e vv g = rw (← e, ← (size-carrieds vs), working-sub o (carrieds vs) (lam p)) (operating (carrieds-values vv) (gives-carried g))
 
 -- the ending of a call: the function is given the continuation and the values
 pub end-called : {o a i : ℕ} {b k : Term} (vs : Terms) → size vs ≡ i → size vs ≡ a → Value k → Values vs → Scoped rules 0 0 (fun o a b)

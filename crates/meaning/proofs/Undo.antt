@@ -4,9 +4,9 @@
 use Prim.Native.Nat.{ℕ}
 use mathlib.Core.Bool.{Bool, true, false, cond, false≢true, and-eq-true-iff}
 use mathlib.Core.Path.{_≡_, refl, sym, ap, ap₂, _∙_}
-use Rattle.language.specs.Term.{Term, Terms, Arms, var, kvar, fun, call, bind, con, cases, nil, cons, none, arm, size}
+use Rattle.language.specs.Term.{Term, Terms, Arms, var, kvar, fun, call, bind, con, cases, num, op, nil, cons, none, arm, size}
 use Rattle.language.specs.Run.{atom, atoms, Value, rev}
-use Rattle.language.specs.Image.{calling, making, passing, carried, carrieds, chain, passingᵃ}
+use Rattle.language.specs.Image.{calling, making, working, passing, carried, carrieds, chain, passingᵃ}
 use Rattle.language.proofs.Forms.{value-atom}
 
 -- what stands where nothing can have been
@@ -55,6 +55,8 @@ mutual
   origin (bind m b) = inside nought (λ f acc. bind f (origin b .given)) nought
   origin (con t ps) = leaf (con t (atomsFrom ps)) (λ f acc. con t (cons f (rev acc nil)))
   origin (cases m ps) = inside nought (λ f acc. cases f (armsFrom ps)) nought
+  origin (num n) = leaf (num n) noughts
+  origin (op o ps) = leaf (op o nil) (λ f acc. op o (cons f (rev acc nil)))
 
   originOfFirst : Terms → Origin
   originOfFirst nil = leaf nought noughts
@@ -78,6 +80,8 @@ opens-is (call f ps) = refl
 opens-is (bind m b) = refl
 opens-is (con t ps) = refl
 opens-is (cases m ps) = refl
+opens-is (num n) = refl
+opens-is (op o ps) = refl
 
 -- terms turned round twice
 rev-rev : (ts acc : Terms) → rev (rev ts acc) nil ≡ rev acc ts
@@ -104,10 +108,16 @@ mutual
   passed-is (bind m b) = rw (opens-is m, passed-is m, passed-is b) refl
   passed-is (con t ps) = con-is ps t
   passed-is (cases m ps) = rw (opens-is m, passed-is m, arms-is ps) refl
+  passed-is (num n) = refl
+  passed-is (op o ps) = op-is ps o
 
   con-is : (ps : Terms) (t : ℕ) → origin (passing (con t ps)) .passed ≡ con t ps
   con-is nil t = refl
   con-is (cons p ps) t = either t p ps (atoms (cons p ps)) refl (λ e. atom-is p e) (λ e. atoms-are ps e) (passed-is p) (λ z. rest-is ps z p nil)
+
+  op-is : (ps : Terms) (o : ℕ) → origin (passing (op o ps)) .passed ≡ op o ps
+  op-is nil o = refl
+  op-is (cons p ps) o = rw (opens-is p, passed-is p, rest-is ps (working o (size (cons p ps))) p nil, rev-rev ps nil) refl
 
   atom-is : (t : Term) → atom t ≡ true → origin (carried t) .atom ≡ t
   atom-is (var i) e = refl
@@ -117,6 +127,8 @@ mutual
   atom-is (bind m b) e = absurd (false≢true e)
   atom-is (con t ps) e = ap (con t) (atoms-are ps e)
   atom-is (cases m ps) e = absurd (false≢true e)
+  atom-is (num n) e = refl
+  atom-is (op o ps) e = absurd (false≢true e)
 
   atoms-are : (ts : Terms) → atoms ts ≡ true → atomsFrom (carrieds ts) ≡ ts
   atoms-are nil e = refl

@@ -5,13 +5,30 @@ use mathlib.Core.Bool.{Bool, true, false, cond}
 use mathlib.Core.Option.{some, Option·some-injective, Option·none-ne-some}
 use native.Mathlib.Omega.{arith}
 use Rattle.language.specs.Term.{Lang, rules, images, Term, Terms, Arms, fun, con, nil, cons, size}
-use Rattle.language.specs.Scope.{HasK, Scoped, Scopedᵗ, Scopedᵃ, s-fun, s-call, s-bind, s-con, s-cases, s-nil, s-cons, s-none, s-arm}
+use Rattle.language.specs.Scope.{HasK, Scoped, Scopedᵗ, Scopedᵃ, s-fun, s-call, s-bind, s-con, s-cases, s-num, s-op, s-nil, s-cons, s-none, s-arm}
 use Rattle.language.specs.Sub.{sub}
-use Rattle.language.specs.Run.{Value, Values, v-con, v-nil, v-cons, enters, rev, itself, both, took}
-use Rattle.language.specs.Run.{Run, Runs, taken, built, bound, called, matched, done, then}
+use Rattle.language.specs.Run.{Value, Values, v-con, v-num, v-nil, v-cons, Gives, adds, subtracts, less, enters, rev, itself, both, took}
+use Rattle.language.specs.Run.{Run, Runs, taken, built, bound, called, matched, operated, done, then}
 use Rattle.language.specs.Image.{carried, carrieds}
 use Rattle.language.proofs.Forms.{size-itself, same-both, counted-is}
 use Rattle.meaning.proofs.Scopes.{sub-scoped}
+
+-- what an operation gives: a value, closed, and given by the operation on the carried forms as its carried form
+pub gives-value : {o : ℕ} {vs : Terms} {v : Term} → Gives o vs v → Value v
+gives-value adds = v-num
+gives-value subtracts = v-num
+gives-value less = v-con v-nil
+
+pub gives-scoped : {L : Lang} {c d o : ℕ} {vs : Terms} {v : Term} → Gives o vs v → Scoped L c d v
+gives-scoped adds = s-num
+gives-scoped subtracts = s-num
+gives-scoped less = s-con s-nil
+
+pub gives-carried : {o : ℕ} {vs : Terms} {v : Term} → Gives o vs v → Gives o (carrieds vs) (carried v)
+unfolding carried
+gives-carried adds = adds
+gives-carried subtracts = subtracts
+gives-carried less = less
 
 mutual
   pub run-value : {L : Lang} {t v : Term} → Run L t v → Value v
@@ -20,6 +37,7 @@ mutual
   run-value (bound r s) = run-value s
   run-value (called f r e s) = run-value s
   run-value (matched r k s) = run-value s
+  run-value (operated r g) = gives-value g
 
   pub runs-values : {L : Lang} {ts vs : Terms} → Runs L ts vs → Values vs
   runs-values done = v-nil
@@ -114,6 +132,7 @@ mutual
   run-scoped (bound r s) (s-bind m b) = run-scoped s (let-scoped b (run-scoped r m))
   run-scoped (called f r e s) (s-call hf hs) = run-scoped s (call-scoped (run-scoped f hf) (runs-scoped r hs) e)
   run-scoped (matched r k s) (s-cases hm hs) = run-scoped s (arm-scoped k hs (run-scoped r hm))
+  run-scoped (operated r g) (s-op hs) = gives-scoped g
 
   pub runs-scoped : {L : Lang} {ts vs : Terms} → Runs L ts vs → Scopedᵗ L 0 0 ts → Scopedᵗ L 0 0 vs
   runs-scoped done h = s-nil

@@ -5,13 +5,14 @@ use mathlib.Core.Path.{_≡_, refl, sym, ap}
 use mathlib.Core.List.{List, [], _∷_}
 use mathlib.Core.Option.{Option, some, none}
 use Rattle.language.specs.Term.{rules, images, Term, size}
+use Rattle.language.specs.Setting.{inVersion}
 use Rattle.language.specs.Words.{words}
 use Rattle.language.specs.Sub.{sub}
 use Rattle.language.specs.Run.{atom, enters, rev, itself, took, Counts, count}
 use Rattle.language.specs.Image.{downto, passing, carried, image}
-use Rattle.language.specs.Kinds.{headOf}
+use Rattle.language.specs.Kinds.{known, headOf}
 use Rattle.language.specs.Dead.{dead}
-use Rattle.language.specs.Read.{Reading, accepted, refused, then, made, second, many, unlike, armsOf, opened, term, closed, ended, read}
+use Rattle.language.specs.Read.{Reading, accepted, refused, then, made, second, number, many, unlike, armsOf, opened, term, closed, ended, read}
 use Rattle.language.proofs.Eval.{levels, Ran, eval}
 use Rattle.meaning.specs.Promises.{applications}
 use Rattle.language.specs.Cases.{Each}
@@ -42,7 +43,7 @@ abbrev Computed : Row → Reading → Type 0
 Computed x (accepted t) = Compared x (eval rules levels t) (eval images levels (image t))
 Computed x (refused e p) = ⊥
 
-compared : (x : Row) (t : Term) → read (x .of .rule) ≡ accepted t → (r : Option (Ran rules t)) (s : Option (Ran images (image t)))
+compared : (x : Row) (t : Term) → read (inVersion (x .of .version)) (x .of .rule) ≡ accepted t → (r : Option (Ran rules t)) (s : Option (Ran images (image t)))
     → Compared x r s → Agrees x
 compared x t e none s h = absurd h
 compared x t e (some r) none h = absurd h
@@ -57,14 +58,14 @@ compared x t e (some r) (some s) h = record {
   sum-is = ap (λ y. y .6) h;
 }
 
-computed : (x : Row) (g : Reading) → read (x .of .rule) ≡ g → Computed x g → Agrees x
+computed : (x : Row) (g : Reading) → read (inVersion (x .of .version)) (x .of .rule) ≡ g → Computed x g → Agrees x
 computed x (accepted t) e h = compared x t e (eval rules levels t) (eval images levels (image t)) h
 computed x (refused n p) e h = absurd h
 
-all-computed : (xs : List Row) → Each (λ x. Computed x (read (x .of .rule))) xs → Each Agrees xs
+all-computed : (xs : List Row) → Each (λ x. Computed x (read (inVersion (x .of .version)) (x .of .rule))) xs → Each Agrees xs
 all-computed [] h = tt
-all-computed (x ∷ xs) h = (computed x (read (x .of .rule)) refl (h .0), all-computed xs (h .1))
+all-computed (x ∷ xs) h = (computed x (read (inVersion (x .of .version)) (x .of .rule)) refl (h .0), all-computed xs (h .1))
 
 pub worked-runs : WorkedRuns
-unfolding read closed ended term then made second many unlike dead armsOf opened headOf words image passing downto atom size sub enters rev itself took eval count
-worked-runs = all-computed ran (refl, (refl, (refl, (refl, (refl, (refl, (refl, (refl, (refl, (refl, (refl, (refl, (refl, (refl, (refl, tt)))))))))))))))
+unfolding read known closed ended term then made second number many unlike dead armsOf opened headOf words image passing downto atom size sub enters rev itself took eval count
+worked-runs = all-computed ran (refl, (refl, (refl, (refl, (refl, (refl, (refl, (refl, (refl, (refl, (refl, (refl, (refl, (refl, (refl, (refl, (refl, (refl, (refl, (refl, (refl, (refl, (refl, (refl, (refl, (refl, (refl, (refl, (refl, tt)))))))))))))))))))))))))))))

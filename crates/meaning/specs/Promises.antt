@@ -4,7 +4,8 @@ use mathlib.Core.Path.{_≡_}
 use mathlib.Core.Logic.{_↔_}
 use mathlib.Core.List.{List}
 use lib.ListN.{length}
-use Rattle.language.specs.Term.{Lang, rules, images, Term, Terms, con, nil, cons}
+use Rattle.language.specs.Term.{Lang, rules, images, Term, Terms, con, num, nil, cons}
+use Rattle.language.specs.Setting.{Setting}
 use Rattle.language.specs.Words.{words}
 use Rattle.language.specs.Scope.{Scoped}
 use Rattle.language.specs.Run.{Value, Counts, Run, count}
@@ -12,7 +13,7 @@ use Rattle.language.specs.Image.{image, carried}
 use Rattle.language.specs.Read.{read, accepted}
 
 -- the applications that an image makes for a rule's run with these counts: two for each value taken whole, each call and each constructor
--- built from unfinished parts, and one for each let and each match. "a call there is one application."
+-- built from unfinished parts, among which an operation counts, and one for each let and each match. "a call there is one application."
 abbrev pub applications : Counts → ℕ
 applications c = 2 * (c .values + c .calls + c .builds) + c .lets + c .matches
 
@@ -23,10 +24,11 @@ pub record Comes (t w : Term) (n l m : ℕ) : Type 0 where
   pub in-lets : (count run) .lets ≡ l
   pub in-matches : (count run) .matches ≡ m
 
--- a value that holds no function: a constructor whose arguments hold none
+-- a value that holds no function: a constructor whose arguments hold none, or a number
 mutual
   pub data Plain : Term → Type 0 where
     p-con : {t : ℕ} {ps : Terms} → Plainᵗ ps → Plain (con t ps)
+    p-num : {n : ℕ} → Plain (num n)
 
   pub data Plainᵗ : Terms → Type 0 where
     p-nil : Plainᵗ nil
@@ -54,7 +56,7 @@ Demand3 = (t v : Term) → Scoped rules 0 0 t → (r : Run rules t v) → Kept t
 
 -- demand 3 of words: for every sequence of words that is accepted as a rule
 abbrev pub Demand3OfWords : Type 0
-Demand3OfWords = (ws : List ℕ) (t v : Term) → read ws ≡ accepted t → (r : Run rules t v) → Kept t v (count r)
+Demand3OfWords = (S : Setting) (ws : List ℕ) (t v : Term) → read S ws ≡ accepted t → (r : Run rules t v) → Kept t v (count r)
 
 -- `Finishes t v n l m`: the rule t comes to v, and demand 3's numbers for that run are n applications, l lets and m matches
 pub record Finishes (t v : Term) (n l m : ℕ) : Type 0 where
@@ -74,18 +76,20 @@ Converse = (t w : Term) (n l m : ℕ) → Scoped rules 0 0 t → Comes (image t)
 
 -- Wish 10 of words: "the image of an accepted rule"
 abbrev pub ConverseOfWords : Type 0
-ConverseOfWords = (ws : List ℕ) (t w : Term) (n l m : ℕ) → read ws ≡ accepted t → Comes (image t) w n l m → FromRule t w n l m
+ConverseOfWords = (S : Setting) (ws : List ℕ) (t w : Term) (n l m : ℕ) → read S ws ≡ accepted t → Comes (image t) w n l m → FromRule t w n l m
 
 -- demand 3 and its other half in one: an accepted rule comes to the value v with demand 3's numbers exactly when its image comes to v's carried form
 -- with these numbers
 abbrev pub ExactlyWhen : Type 0
-ExactlyWhen = (ws : List ℕ) (t v : Term) (n l m : ℕ) → read ws ≡ accepted t → Value v → Finishes t v n l m ↔ Comes (image t) (carried v) n l m
+ExactlyWhen =
+    (S : Setting) (ws : List ℕ) (t v : Term) (n l m : ℕ) → read S ws ≡ accepted t → Value v → Finishes t v n l m ↔ Comes (image t) (carried v) n l m
 
 -- "So a controller can't report a decision for a rule that the bench finds stuck or endless": an accepted rule that comes to no value has an
 -- image that comes to none
 abbrev pub NoDecision : Type 0
-NoDecision = (ws : List ℕ) (t : Term) → read ws ≡ accepted t → ((v : Term) → Run rules t v → ⊥) → (w : Term) → Run images (image t) w → ⊥
+NoDecision =
+    (S : Setting) (ws : List ℕ) (t : Term) → read S ws ≡ accepted t → ((v : Term) → Run rules t v → ⊥) → (w : Term) → Run images (image t) w → ⊥
 
 -- "Its length in words, for a rule of w words, is at most 7w."
 abbrev pub SevenTimesOfWords : Type 0
-SevenTimesOfWords = (ws : List ℕ) (t : Term) → read ws ≡ accepted t → length (words images (image t)) ≤ 7 * length ws
+SevenTimesOfWords = (S : Setting) (ws : List ℕ) (t : Term) → read S ws ≡ accepted t → length (words images (image t)) ≤ 7 * length ws

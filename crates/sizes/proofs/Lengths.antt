@@ -6,10 +6,10 @@ use mathlib.Core.Path.{_≡_, refl, ap}
 use mathlib.Core.Bool.{Bool, true, false, and-eq-true-iff, false≢true}
 use native.Mathlib.Omega.{arith}
 use lib.ListN.{length, length-append}
-use Rattle.language.specs.Term.{images, Term, Terms, Arms, var, kvar, fun, call, bind, con, cases, nil, cons, none, arm, size}
+use Rattle.language.specs.Term.{images, Term, Terms, Arms, var, kvar, fun, call, bind, con, cases, num, op, nil, cons, none, arm, size}
 use Rattle.language.specs.Words.{words, wordsᵗ}
 use Rattle.language.specs.Run.{atom, atoms}
-use Rattle.language.specs.Image.{passing, carried, carrieds, chain, downto, calling, making, image}
+use Rattle.language.specs.Image.{passing, carried, carrieds, chain, downto, calling, making, working, image}
 use Rattle.language.proofs.Forms.{passing-build}
 use Rattle.sizes.specs.Lengths.{passingLength, passingLengths, armLengths, imageLength}
 
@@ -30,6 +30,10 @@ pub of-kvar : (i : ℕ) → passingLength (kvar i) ≡ 4
 unfolding passingLength passing words
 of-kvar i = refl
 
+pub of-num : (n : ℕ) → passingLength (num n) ≡ 6
+unfolding passingLength passing words
+of-num n = refl
+
 pub of-fun : (o a : ℕ) (b : Term) → passingLength (fun o a b) ≡ passingLength b + 6
 unfolding passingLength passing words
 of-fun o a b = simp length-append (omega arith)
@@ -48,7 +52,7 @@ unfolding passingLengths passingLength passing words size
 of-chain nil e = omega arith
 of-chain (cons t ts) e = simp length-append (omega (arith, of-chain ts e))
 
--- the two endings of a chain
+-- the three endings of a chain
 pub of-calling : (n : ℕ) → length (words images (calling n)) ≡ n + 3
 unfolding words
 of-calling n = simp length-append (omega (arith, of-downto n))
@@ -57,9 +61,17 @@ pub of-making : (t n : ℕ) → length (words images (making t n)) ≡ n + 4
 unfolding words
 of-making t n = simp length-append (omega (arith, of-downto n))
 
+pub of-working : (o n : ℕ) → length (words images (working o n)) ≡ n + 3
+unfolding words
+of-working o n = simp length-append (omega (arith, of-downto n))
+
 pub of-call : (f : Term) (ps : Terms) → passingLength (call f ps) ≡ passingLength f + passingLengths ps + 3 * size ps + 6
 unfolding passingLength passing words
 of-call f ps = simp length-append (omega (arith, of-chain ps (calling (size ps)), of-calling (size ps)))
+
+pub of-op : (o : ℕ) (ps : Terms) → passingLength (op o ps) ≡ passingLengths ps + 3 * size ps + 4
+unfolding passingLength passing words
+of-op o ps = omega (arith, of-chain ps (working o (size ps)), of-working o (size ps))
 
 pub of-cases : (m : Term) (ps : Arms) → passingLength (cases m ps) ≡ passingLength m + armLengths ps + 5
 unfolding passingLength armLengths passing words
@@ -85,6 +97,8 @@ mutual
   of-carried (bind m b) e = absurd (false≢true e)
   of-carried (con t ps) e = simp (e, length-append) (omega arith)
   of-carried (cases m ps) e = absurd (false≢true e)
+  of-carried (num n) e = refl
+  of-carried (op o ps) e = absurd (false≢true e)
 
   pub of-carrieds : (ts : Terms) → atoms ts ≡ true → passingLengths ts ≡ length (wordsᵗ images (carrieds ts)) + 3 * size ts
   of-carrieds nil e = refl

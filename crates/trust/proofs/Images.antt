@@ -5,9 +5,10 @@ use Prim.Native.Nat.{_+_, _≤_}
 use mathlib.Core.Path.{refl}
 use native.Mathlib.Omega.{arith}
 use Rattle.language.specs.Term.{Lang, rules, images, Term, Terms, Arms, size}
-use Rattle.language.specs.Kinds.{mostArguments, headOf}
+use Rattle.language.specs.Kinds.{mostArguments, oldest, known, headOf}
+use Rattle.language.specs.Setting.{inVersion}
 use Rattle.language.specs.Words.{added}
-use Rattle.language.specs.Limits.{Ranged, Rangedᵗ, Rangedᵃ, r-var, r-kvar, r-fun, r-call, r-bind, r-con, r-cases, r-nil, r-cons, r-none, r-arm}
+use Rattle.language.specs.Limits.{Ranged, Rangedᵗ, Rangedᵃ, r-var, r-kvar, r-fun, r-call, r-bind, r-con, r-cases, r-num, r-op, r-nil, r-cons, r-none, r-arm}
 use Rattle.language.specs.Run.{atom}
 use Rattle.language.specs.Image.{downto, passing, image}
 use Rattle.language.specs.Read.{then, made, second, many, opened, term, closed, ended, read}
@@ -17,7 +18,7 @@ use Rattle.trust.proofs.Accepted.{accepted-rule}
 use Rattle.trust.proofs.Ranges.{words-fit, images-in-range}
 
 pub accepted-images-fit : AcceptedImagesFit
-accepted-images-fit ws t e = let r = images-in-range t ((accepted-rule ws t e) .ranged) in (r, words-fit images (image t) r)
+accepted-images-fit S ws t f e = let r = images-in-range t ((accepted-rule S ws t f e) .ranged) in (r, words-fit images (image t) r)
 
 -- the ranges of a language bound the arguments
 module _ (L : Lang) where
@@ -32,6 +33,8 @@ module _ (L : Lang) where
     wide (r-bind x y) = omega (arith, wide x, wide y)
     wide (r-con l u y) = omega (arith, wideᵗ y)
     wide (r-cases l u x y) = omega (arith, wide x, wideᵃ y)
+    wide (r-num l) = omega arith
+    wide (r-op l u y) = omega (arith, wideᵗ y)
 
     wideᵗ : {ts : Terms} → Rangedᵗ L ts → widestᵗ L ts ≤ mostArguments + added L
     wideᵗ r-nil = omega arith
@@ -42,8 +45,8 @@ module _ (L : Lang) where
     wideᵃ (r-arm l u x y) = omega (arith, wide x, wideᵃ y)
 
 pub fifteen-and-sixteen : FifteenAndSixteen
-unfolding read closed ended term then made second many opened headOf passing downto atom size image widest
+unfolding read known closed ended term then made second many opened headOf passing downto atom size image widest
 fifteen-and-sixteen = record {
-  most = λ ws t e. (wide rules (accepted-rule ws t e .ranged), wide images (accepted-images-fit ws t e .0));
-  reached = (passesFifteen .rule, _, refl, refl, refl);
+  most = λ S ws t f e. (wide rules (accepted-rule S ws t f e .ranged), wide images (accepted-images-fit S ws t f e .0));
+  reached = (inVersion oldest, passesFifteen .rule, _, refl, refl, refl);
 }

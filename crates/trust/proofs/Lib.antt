@@ -2,6 +2,7 @@ pub mod Live
 pub mod Rows
 pub mod Accepted
 pub mod Complete
+pub mod Versions
 pub mod Ranges
 pub mod Unique
 pub mod Placed

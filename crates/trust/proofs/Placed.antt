@@ -1,8 +1,8 @@
--- A refusal's place helps its reader: 3 carries the number of words, 4 to 8 the place of a word given, and such a refusal is decided by the words up to
--- and including that one. By induction on the levels of depth left, over two tables whose first k words agree: reading goes forward only, so
--- that what it comes to within the first k words of the one it comes to in the other.
+-- A refusal's place helps its reader: 11, 1 and 2 carry none, 3 carries the number of words, 4 to 8 the place of a word given, and such a refusal is
+-- decided by the words up to and including that one. By induction on the levels of depth left, over two tables whose first k words agree: reading
+-- goes forward only, so that what it comes to within the first k words of the one it comes to in the other.
 -- Assumes nothing.
-use Prim.Native.Nat.{ℕ, zero, suc, _+_, _%_, _<_, _≤_}
+use Prim.Native.Nat.{ℕ, zero, suc, _+_, _*_, _%_, _<_, _≤_}
 use mathlib.Core.Path.{_≡_, refl, ap, _∙_}
 use mathlib.Core.Bool.{Bool, true, false, cond}
 use mathlib.Core.List.{List, [], _∷_, _++_}
@@ -11,18 +11,20 @@ use lib.Dec.{ltb, leb, eqb}
 use lib.ListN.{length, getD, take, length-append, List·getD-append}
 use lib.Seq.{length-take-le, getD-take}
 use borrow.Author.Tests.{lt-ltb, le-ltb, ne-eqb, ltb-true, ltb-false}
-use Rattle.language.specs.Term.{Term, var, fun, call, bind, con, cases, nil, cons, none, arm}
-use Rattle.language.specs.Kinds.{mostArguments, atTerm, atArm, rowOf, tested, headOf}
+use Rattle.language.specs.Term.{Term, var, fun, call, bind, con, cases, num, op, nil, cons, none, arm}
+use Rattle.language.specs.Setting.{Setting}
+use Rattle.language.specs.Kinds.{mostArguments, operands, known, atTerm, atArm, rowOf, allowed, tested, headOf}
+use Rattle.language.specs.Words.{wordEnd}
 use Rattle.language.specs.Limits.{deepest, mostWords}
 use Rattle.language.specs.Dead.{dead}
-use Rattle.language.specs.Read.{noPlace, Got, found, fault, then, made, word, headed, second, many, unlike, armsOf, opened, term, refused, reading, closed, ended, read}
+use Rattle.language.specs.Read.{noPlace, Got, found, fault, then, made, word, headed, second, number, many, unlike, armsOf, opened, term, refused, reading, closed, ended, read}
 use Rattle.language.specs.declared.Parts.{Parts}
-use Rattle.language.specs.declared.Parts.the-variants.{Nothing, Body, FunctionAndArguments, BoundAndBody, CountAndArguments, SubjectAndArms, ArityAndBody}
+use Rattle.language.specs.declared.Parts.the-variants.{Nothing, Body, FunctionAndArguments, BoundAndBody, CountAndArguments, SubjectAndArms, ArityAndBody, HighAndLow, TwoParts}
 use Rattle.language.specs.declared.Row.{Row}
 use Rattle.language.specs.declared.Head.{Head}
 use Rattle.language.specs.declared.Head.the-variants.{Refused, Opens}
 use Rattle.language.proofs.Clash.{never}
-use Rattle.trust.specs.Promises.{OfWord, of-rule, of-dead-arm, Placed, of-length, of-end, of-word, PlacesHelp}
+use Rattle.trust.specs.Promises.{OfWord, of-rule, of-dead-arm, Placed, of-version, of-length, of-end, of-word, PlacesHelp}
 
 -- what a fault tells that is met in reading the words s: none is left, or the word at its place is refused
 data Told (s : List ℕ) : ℕ → ℕ → Type 0 where
@@ -49,9 +51,9 @@ past-three (of-rule l m) = l
 past-three of-dead-arm = omega arith
 
 -- a head is refused by 4 or 5
-head-told : (q w : ℕ) {e : ℕ} → headOf q w ≡ Refused e → OfWord e
+head-told : (v q w : ℕ) {e : ℕ} → headOf v q w ≡ Refused e → OfWord e
 unfolding headOf tested
-head-told q w {e} h = go (eqb (r .stands) q) (ltb (w % 256) (r .low)) (ltb (r .high) (w % 256)) h
+head-told v q w {e} h = go (allowed r v q) (ltb (w % 256) (r .low)) (ltb (r .high) (w % 256)) h
   where
     r : Row
     r = rowOf w
@@ -143,12 +145,12 @@ module _ (s u : List ℕ) (k : ℕ) (agree : (i : ℕ) → i < k → i < length 
       go true e = let l = ltb-true at (length s) e in record { tells = h (getD s at 0) l .tells; same = there l }
       go false e = record { tells = faults ends; same = gone }
 
-  head-alike : {A : Type 0} (q w at : ℕ) {f f' : Row → Got A} → at < length s → ((r : Row) → Alike s k (at + 1) (f r) (f' r))
-      → Alike s k (at + 1) (headed (headOf q w) at f) (headed (headOf q w) at f')
-  head-alike q w at {f} {f'} l x = go (headOf q w) refl
+  head-alike : {A : Type 0} (v q w at : ℕ) {f f' : Row → Got A} → at < length s → ((r : Row) → Alike s k (at + 1) (f r) (f' r))
+      → Alike s k (at + 1) (headed (headOf v q w) at f) (headed (headOf v q w) at f')
+  head-alike v q w at {f} {f'} l x = go (headOf v q w) refl
     where
-      go : (o : Head) → headOf q w ≡ o → Alike s k (at + 1) (headed o at f) (headed o at f')
-      go (Refused e) i = fault-alike (head-told q w i) l (omega arith)
+      go : (o : Head) → headOf v q w ≡ o → Alike s k (at + 1) (headed o at f) (headed o at f')
+      go (Refused e) i = fault-alike (head-told v q w i) l (omega arith)
       go (Opens r) i = x r
 
   second-alike : (at : ℕ) → Alike s k (at + 1) (second s at) (second u at)
@@ -161,8 +163,12 @@ module _ (s u : List ℕ) (k : ℕ) (agree : (i : ℕ) → i < k → i < length 
       (test-alike (dead t w before) (fault-alike of-dead-arm l (omega arith)) (found-alike {to = at + 1} w (omega arith)))
       (fault-alike (of-rule {e = 5} (omega arith) (omega arith)) l (omega arith))))
 
+  number-alike : (at : ℕ) → Alike s k (at + 1) (number s at) (number u at)
+  unfolding number
+  number-alike at = word-alike at (λ h l. from (omega arith) (word-alike (at + 1) (λ w m. found-alike {to = at + 1 + 1} (h * wordEnd + w) (omega arith))))
+
   -- the readers of lists, arms and forms, where p and p' read their terms in the two tables
-  module _ (p p' : ℕ → ℕ → Got Term) (alike : (n at : ℕ) → Alike s k (at + 1) (p n at) (p' n at)) where
+  module _ (S : Setting) (p p' : ℕ → ℕ → Got Term) (alike : (n at : ℕ) → Alike s k (at + 1) (p n at) (p' n at)) where
     next : (n at : ℕ) → Alike s k at (p n at) (p' n at)
     next n at = from (omega arith) (alike n at)
 
@@ -171,16 +177,16 @@ module _ (s u : List ℕ) (k : ℕ) (agree : (i : ℕ) → i < k → i < length 
     many-alike n zero at = found-alike nil (omega arith)
     many-alike n (suc c) at = then-alike (p n at) (next n at) (λ t to. made-alike (many (p n) c to) (cons t) (many-alike n c to))
 
-    arms-alike : (before : List (ℕ × ℕ)) (n c at : ℕ) → Alike s k at (armsOf s p before n c at) (armsOf u p' before n c at)
+    arms-alike : (before : List (ℕ × ℕ)) (n c at : ℕ) → Alike s k at (armsOf S s p before n c at) (armsOf S u p' before n c at)
     unfolding armsOf
     arms-alike before n zero at = found-alike none (omega arith)
-    arms-alike before n (suc c) at = from (omega arith) (word-alike at (λ w l. head-alike atArm w at l (λ r.
+    arms-alike before n (suc c) at = from (omega arith) (word-alike at (λ w l. head-alike (S .version) atArm w at l (λ r.
         then-alike (unlike s before (w % 256) (at + 1)) (from (omega arith) (unlike-alike before (w % 256) (at + 1)))
         (λ m to. then-alike (p (n + m) to) (next (n + m) to) (λ b past.
         let more = before ++ ((w % 256, m) ∷ []) in
-        made-alike (armsOf s p more n c past) (arm (w % 256) m b) (arms-alike more n c past))))))
+        made-alike (armsOf S s p more n c past) (arm (w % 256) m b) (arms-alike more n c past))))))
 
-    opened-alike : (n at a o : ℕ) (f : Parts) → at < length s → Alike s k (at + 1) (opened s p n at a o f) (opened u p' n at a o f)
+    opened-alike : (n at a o : ℕ) (f : Parts) → at < length s → Alike s k (at + 1) (opened S s p n at a o f) (opened S u p' n at a o f)
     unfolding opened
     opened-alike n at a o Nothing l =
         test-alike (ltb a n) (found-alike (var a) (omega arith)) (fault-alike (of-rule {e = 7} (omega arith) (omega arith)) l (omega arith))
@@ -191,14 +197,16 @@ module _ (s u : List ℕ) (k : ℕ) (agree : (i : ℕ) → i < k → i < length 
     opened-alike n at a o CountAndArguments l =
         then-alike (second s (at + 1)) (from (omega arith) (second-alike (at + 1))) (λ m to. made-alike (many (p n) m to) (con a) (many-alike n m to))
     opened-alike n at a o SubjectAndArms l =
-        then-alike (p n (at + 1)) (next _ _) (λ m to. made-alike (armsOf s p [] n a to) (cases m) (arms-alike [] n a to))
+        then-alike (p n (at + 1)) (next _ _) (λ m to. made-alike (armsOf S s p [] n a to) (cases m) (arms-alike [] n a to))
     opened-alike n at a o ArityAndBody l = fault-alike (of-rule {e = 4} (omega arith) (omega arith)) l (omega arith)
+    opened-alike n at a o HighAndLow l = made-alike (number s (at + 1)) num (from (omega arith) (number-alike (at + 1)))
+    opened-alike n at a o TwoParts l = made-alike (many (p n) operands (at + 1)) (op a) (many-alike n operands (at + 1))
 
-  term-alike : (d n at : ℕ) → Alike s k (at + 1) (term s d n at) (term u d n at)
+  term-alike : (S : Setting) (d n at : ℕ) → Alike s k (at + 1) (term S s d n at) (term S u d n at)
   unfolding term
-  term-alike zero n at = word-alike at (λ w l. fault-alike (of-rule {e = 6} (omega arith) (omega arith)) l (omega arith))
-  term-alike (suc d) n at = word-alike at (λ w l. head-alike atTerm w at l (λ r.
-      opened-alike (term s d) (term u d) (term-alike d) n at (w % 256) (r .binds) (r .parts) l))
+  term-alike S zero n at = word-alike at (λ w l. fault-alike (of-rule {e = 6} (omega arith) (omega arith)) l (omega arith))
+  term-alike S (suc d) n at = word-alike at (λ w l. head-alike (S .version) atTerm w at l (λ r.
+      opened-alike S (term S s d) (term S u d) (term-alike S d) n at (w % 256) (r .binds) (r .parts) l))
 
 -- what reading the whole of s refuses
 ended-told : (s : List ℕ) (g : Got Term) {e p : ℕ} → Tells s g → then g (ended s) ≡ fault e p → Told s e p
@@ -228,15 +236,15 @@ ended-same s u k longer (found t to) h x {e} {p} q l m = go (ltb to (length s)) 
         rw (x .same (by-end (omega arith)) .1) (simp (lt-ltb to (length u) (longer to (omega arith) (ltb-true to (length s) b))) q)
     go false b q = never cc
 
-abbrev whole : List ℕ → Got Term
-whole s = then (term s deepest 0 0) (ended s)
+abbrev whole : Setting → List ℕ → Got Term
+whole S s = then (term S s deepest 0 0) (ended s)
 
-whole-told : (s : List ℕ) {e p : ℕ} → whole s ≡ fault e p → Told s e p
-whole-told s h = ended-told s (term s deepest 0 0) (term-alike s s 0 (λ i a. absurd (omega arith)) deepest 0 0 .tells) h
+whole-told : (S : Setting) (s : List ℕ) {e p : ℕ} → whole S s ≡ fault e p → Told s e p
+whole-told S s h = ended-told s (term S s deepest 0 0) (term-alike s s 0 (λ i a. absurd (omega arith)) S deepest 0 0 .tells) h
 
-whole-same : (s more : List ℕ) {e p : ℕ} → whole s ≡ fault e p → 4 ≤ e → p < length s → whole (take (p + 1) s ++ more) ≡ fault e p
-whole-same s more {e} {p} h l m =
-    ended-same s u (p + 1) (λ i a b. agree i a b .0) (term s deepest 0 0) (term u deepest 0 0) (term-alike s u (p + 1) agree deepest 0 0) h l (omega arith)
+whole-same : (S : Setting) (s more : List ℕ) {e p : ℕ} → whole S s ≡ fault e p → 4 ≤ e → p < length s → whole S (take (p + 1) s ++ more) ≡ fault e p
+whole-same S s more {e} {p} h l m =
+    ended-same s u (p + 1) (λ i a b. agree i a b .0) (term S s deepest 0 0) (term S u deepest 0 0) (term-alike s u (p + 1) agree S deepest 0 0) h l (omega arith)
   where
     u : List ℕ
     u = take (p + 1) s ++ more
@@ -250,31 +258,33 @@ whole-same s more {e} {p} h l m =
       List·getD-append (take (p + 1) s) more 0 i (omega (arith, first)) ∙ getD-take (p + 1) s i 0 a,
     )
 
--- the tests of the lengths before it
-read-whole : (s : List ℕ) → (length s ≡ 0 → ⊥) → length s ≤ mostWords → read s ≡ reading (whole s)
+-- the tests of the version and the lengths before it
+read-whole : (S : Setting) (s : List ℕ) → known (S .version) ≡ true → (length s ≡ 0 → ⊥) → length s ≤ mostWords → read S s ≡ reading (whole S s)
 unfolding read closed
-read-whole s n l = simp (ne-eqb (length s) 0 n, le-ltb mostWords (length s) l)
+read-whole S s k n l = simp (k, ne-eqb (length s) 0 n, le-ltb mostWords (length s) l)
 
 reading-refused : (g : Got Term) {e p : ℕ} → reading g ≡ refused e p → g ≡ fault e p
 reading-refused (found t to) h = never cc
 reading-refused (fault e p) h = cc
 
-placed : {ws : List ℕ} {e p : ℕ} → length ws ≤ mostWords → whole ws ≡ fault e p → Told ws e p → Placed ws e p
-placed l h ends = of-end l
-placed {ws} {e} {p} l h (tests m i) = of-word l m i same
+placed : (S : Setting) {ws : List ℕ} {e p : ℕ} → known (S .version) ≡ true → length ws ≤ mostWords → whole S ws ≡ fault e p → Told ws e p → Placed S ws e p
+placed S k l h ends = of-end l
+placed S {ws} {e} {p} k l h (tests m i) = of-word l m i same
   where
-    same : (more : List ℕ) → length (take (p + 1) ws ++ more) ≤ mostWords → read (take (p + 1) ws ++ more) ≡ refused e p
+    same : (more : List ℕ) → length (take (p + 1) ws ++ more) ≤ mostWords → read S (take (p + 1) ws ++ more) ≡ refused e p
     same more few =
         let some : length (take (p + 1) ws ++ more) ≡ 0 → ⊥
         = λ z. omega (arith, length-append (take (p + 1) ws) more, length-take-le (p + 1) ws (omega arith)) in
-        read-whole (take (p + 1) ws ++ more) some few ∙ ap reading (whole-same ws more h (past-three m) i)
+        read-whole S (take (p + 1) ws ++ more) k some few ∙ ap reading (whole-same S ws more h (past-three m) i)
 
 pub places-help : PlacesHelp
 unfolding read closed then
-places-help ws e p h = go (eqb (length ws) 0) (ltb mostWords (length ws)) (ltb-false mostWords (length ws)) h
+places-help S ws e p h = go (known (S .version)) refl (eqb (length ws) 0) (ltb mostWords (length ws)) (ltb-false mostWords (length ws)) h
   where
-    go : (b c : Bool) → (c ≡ false → length ws ≤ mostWords) → reading (then (cond b (fault 1 noPlace) (cond c (fault 2 noPlace) (term ws deepest 0 0))) (ended ws)) ≡ refused e p
-        → Placed ws e p
-    go true c few k = let x : _≡_ {A = ℕ} 1 e = cc in let y : noPlace ≡ p = cc in rw (← y) (of-length {e = e} (omega arith) (omega arith))
-    go false true few k = let x : _≡_ {A = ℕ} 2 e = cc in let y : noPlace ≡ p = cc in rw (← y) (of-length {e = e} (omega arith) (omega arith))
-    go false false few k = placed (few refl) (reading-refused (whole ws) k) (whole-told ws (reading-refused (whole ws) k))
+    go : (a : Bool) → known (S .version) ≡ a → (b c : Bool) → (c ≡ false → length ws ≤ mostWords)
+        → reading (then (cond a (cond b (fault 1 noPlace) (cond c (fault 2 noPlace) (term S ws deepest 0 0))) (fault 11 noPlace)) (ended ws)) ≡ refused e p
+        → Placed S ws e p
+    go false v b c few k = let x : _≡_ {A = ℕ} 11 e = cc in let y : noPlace ≡ p = cc in rw (← x, ← y) of-version
+    go true v true c few k = let x : _≡_ {A = ℕ} 1 e = cc in let y : noPlace ≡ p = cc in rw (← y) (of-length {e = e} (omega arith) (omega arith))
+    go true v false true few k = let x : _≡_ {A = ℕ} 2 e = cc in let y : noPlace ≡ p = cc in rw (← y) (of-length {e = e} (omega arith) (omega arith))
+    go true v false false few k = placed S v (few refl) (reading-refused (whole S ws) k) (whole-told S ws (reading-refused (whole S ws) k))

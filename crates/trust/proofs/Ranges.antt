@@ -1,19 +1,26 @@
 -- Every word of a term in its ranges fits 16 bits, and the image of a term in a rule's ranges is in an image's. By induction on the term, form by
 -- form.
 -- Assumes nothing.
-use Prim.Native.Nat.{ℕ, zero, suc, _+_, _<_, _≤_}
+use Prim.Native.Nat.{ℕ, zero, suc, _+_, _/_, _%_, _<_, _≤_}
 use mathlib.Core.Bool.{Bool, true, false, cond}
+use mathlib.Core.Path.{_≡_, _∙_}
 use mathlib.Core.List.{List, [], _∷_, _++_}
 use native.Mathlib.Omega.{arith}
 use lib.ListN.{getD}
-use Rattle.language.specs.Term.{Lang, rules, images, Term, Terms, Arms, kvar, con, nil, cons, size, sizeᵃ}
-use Rattle.language.specs.Kinds.{mostArguments}
-use Rattle.language.specs.Words.{head, added, words, wordsᵗ, wordsᵃ}
-use Rattle.language.specs.Limits.{Ranged, Rangedᵗ, Rangedᵃ, r-var, r-kvar, r-fun, r-call, r-bind, r-con, r-cases, r-nil, r-cons, r-none, r-arm}
+use mir.Syntax.{w16}
+use mir.Val.{Fits}
+use Rattle.language.specs.Term.{Lang, rules, images, Term, Terms, Arms, kvar, con, op, nil, cons, size, sizeᵃ}
+use Rattle.language.specs.Kinds.{mostArguments, lastOperation, operands}
+use Rattle.language.specs.Words.{head, wordEnd, added, words, wordsᵗ, wordsᵃ}
+use Rattle.language.specs.Limits.{Ranged, Rangedᵗ, Rangedᵃ, r-var, r-kvar, r-fun, r-call, r-bind, r-con, r-cases, r-num, r-op, r-nil, r-cons, r-none, r-arm}
 use Rattle.language.specs.Run.{atoms}
-use Rattle.language.specs.Image.{lam, to, downto, calling, making, passing, carried, carrieds, chain, passingᵃ, image}
+use Rattle.language.specs.Image.{lam, to, downto, calling, making, working, passing, carried, carrieds, chain, passingᵃ, image}
 use Rattle.language.proofs.Forms.{size-carrieds, size-downto, size-passingᵃ}
-use Rattle.trust.specs.Promises.{wordEnd, Fit, WordsFit, ImagesInRange}
+use Rattle.trust.specs.Promises.{Fit, WordsFit, ImagesInRange}
+
+-- the words of a lent slice fit
+pub slice-fits : {ws : List ℕ} → ((i : ℕ) → Fits w16 (getD ws i 0)) → Fit ws
+slice-fits h = record { word = λ i. h i .fits }
 
 fit-nil : Fit []
 fit-nil = record { word = λ i. omega arith }
@@ -46,6 +53,9 @@ module _ (L : Lang) where
     fit (r-bind {m} {b} x y) = fit-cons {w = head 5 0} (omega arith) (fit-append (words L m) (words L b) (fit x) (fit y))
     fit (r-con {t} {ps} l u y) = fit-cons {w = head 6 t} (omega arith) (fit-cons {w = size ps} (omega arith) (fitᵗ y))
     fit (r-cases {m} {ps} l u x y) = fit-cons {w = head 7 (sizeᵃ ps)} (omega arith) (fit-append (words L m) (wordsᵃ L ps) (fit x) (fitᵃ y))
+    fit (r-num {n} l) =
+        fit-cons {w = head 10 0} (omega arith) (fit-cons {w = n / wordEnd} (omega arith) (fit-cons {w = n % wordEnd} (omega arith) fit-nil))
+    fit (r-op {o} l u y) = fit-cons {w = head 11 o} (omega arith) (fitᵗ y)
 
     fitᵗ : {ts : Terms} → Rangedᵗ L ts → Fit (wordsᵗ L ts)
     fitᵗ r-nil = fit-nil
@@ -83,6 +93,9 @@ calling-ranged n l = r-call {ps = cons (kvar (suc n)) (downto n)} (omega arith) 
 making-ranged : (t n : ℕ) → t ≤ 255 → n ≤ mostArguments → Ranged images (making t n)
 making-ranged t n h l = to-ranged (k-ranged n (omega arith)) (r-con {ps = downto n} h (omega (arith, size-downto n)) (downto-ranged n (omega arith)))
 
+working-ranged : (o n : ℕ) → o ≤ lastOperation → n ≡ operands → Ranged images (working o n)
+working-ranged o n h e = to-ranged (k-ranged n (omega arith)) (r-op {ps = downto n} h (size-downto n ∙ e) (downto-ranged n (omega arith)))
+
 cond-ranged : (b : Bool) {x y : Term} → Ranged images x → Ranged images y → Ranged images (cond b x y)
 cond-ranged true h k = h
 cond-ranged false h k = k
@@ -109,6 +122,8 @@ mutual
       (chain-ranged y (making-ranged t (size ps) l u)))
   passing-ranged (r-cases {ps} l u x y) = lam-ranged (to-ranged (passing-ranged x) (lam-ranged (r-cases {ps = passingᵃ ps}
       (omega (arith, size-passingᵃ ps)) (omega (arith, size-passingᵃ ps)) (k-ranged 0 (omega arith)) (passingᵃ-ranged y))))
+  passing-ranged (r-num l) = lam-ranged (to-ranged (k-ranged 0 (omega arith)) (r-num l))
+  passing-ranged (r-op {o} {ps} l u y) = lam-ranged (chain-ranged y (working-ranged o (size ps) l u))
 
   pub carried-ranged : {t : Term} → Ranged rules t → Ranged images (carried t)
   carried-ranged (r-var l) = r-var l
@@ -118,6 +133,8 @@ mutual
   carried-ranged (r-bind x y) = filler-ranged
   carried-ranged (r-con {ps} l u y) = r-con {ps = carrieds ps} l (omega (arith, size-carrieds ps)) (carrieds-ranged y)
   carried-ranged (r-cases l u x y) = filler-ranged
+  carried-ranged (r-num l) = r-num l
+  carried-ranged (r-op l u y) = filler-ranged
 
   pub carrieds-ranged : {ts : Terms} → Rangedᵗ rules ts → Rangedᵗ images (carrieds ts)
   carrieds-ranged r-nil = r-nil

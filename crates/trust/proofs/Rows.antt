@@ -1,15 +1,14 @@
--- What a head word opens, kind by kind. The table has ten rows; `Opened` names those that may stand somewhere, each with its kind, so that a proof
+-- What a head word opens, kind by kind. The table has twelve rows; `Opened` names those that may stand somewhere, each with its kind, so that a proof
 -- that goes by cases on it sees the row's columns.
 -- Assumes nothing.
 use Prim.Native.Nat.{ℕ, zero, suc, _/_, _%_, _<_, _≤_}
 use mathlib.Core.Path.{_≡_, refl, subst}
-use mathlib.Core.Bool.{Bool, true, false, cond}
+use mathlib.Core.Bool.{Bool, true, false, _&&_, cond, and-eq-true-iff}
 use native.Mathlib.Omega.{arith}
-use lib.Dec.{ltb, eqb}
-use lib.ListN.{getD}
-use borrow.Author.Tests.{eqb-true, ltb-false}
-use Rattle.language.specs.Kinds.{mostArguments, mostArms, mostByte, atTerm, atArm, row, noRow, kinds, rowOf, headOf}
-use Rattle.language.specs.declared.Parts.the-variants.{Nothing, Body, FunctionAndArguments, BoundAndBody, CountAndArguments, SubjectAndArms, ArityAndBody}
+use lib.Dec.{ltb, leb, eqb}
+use borrow.Author.Tests.{eqb-true, leb-true, ltb-false}
+use Rattle.language.specs.Kinds.{mostArguments, mostArms, mostByte, lastOperation, newest, numbered, atTerm, atArm, rowIn, row, rowAt, Has, rowOf, allowed, headOf}
+use Rattle.language.specs.declared.Parts.the-variants.{Nothing, Body, FunctionAndArguments, BoundAndBody, CountAndArguments, SubjectAndArms, ArityAndBody, HighAndLow, TwoParts}
 use Rattle.language.specs.declared.Row.{Row}
 use Rattle.language.specs.declared.Head.the-variants.{Refused, Opens}
 use Rattle.language.proofs.Clash.{never}
@@ -24,8 +23,10 @@ pub data Opened : ℕ → Row → Type 0 where
   o-con : Opened 6 (row atTerm 0 mostByte 0 CountAndArguments)
   o-match : Opened 7 (row atTerm 1 mostArms 0 SubjectAndArms)
   o-arm : Opened 8 (row atArm 0 mostByte 0 ArityAndBody)
+  o-num : Opened 10 (rowIn numbered newest atTerm 0 0 0 HighAndLow)
+  o-op : Opened 11 (rowIn numbered newest atTerm 0 lastOperation 0 TwoParts)
 
-opened-at : (k : ℕ) → 0 < getD kinds k noRow .stands → Opened k (getD kinds k noRow)
+opened-at : (k : ℕ) → 0 < rowAt k .stands → Opened k (rowAt k)
 opened-at zero h = absurd (omega arith)
 opened-at (suc zero) h = o-var
 opened-at (suc (suc zero)) h = o-fun
@@ -36,11 +37,14 @@ opened-at (suc (suc (suc (suc (suc (suc zero)))))) h = o-con
 opened-at (suc (suc (suc (suc (suc (suc (suc zero))))))) h = o-match
 opened-at (suc (suc (suc (suc (suc (suc (suc (suc zero)))))))) h = o-arm
 opened-at (suc (suc (suc (suc (suc (suc (suc (suc (suc zero))))))))) h = absurd (omega arith)
-opened-at (suc (suc (suc (suc (suc (suc (suc (suc (suc (suc k)))))))))) h = absurd (omega arith)
+opened-at (suc (suc (suc (suc (suc (suc (suc (suc (suc (suc zero)))))))))) h = o-num
+opened-at (suc (suc (suc (suc (suc (suc (suc (suc (suc (suc (suc zero))))))))))) h = o-op
+opened-at (suc (suc (suc (suc (suc (suc (suc (suc (suc (suc (suc (suc k)))))))))))) h = absurd (omega arith)
 
--- what the tests of a head that opens a row showed: the row may stand there, and the low byte is in its range
-pub record Passed (w q : ℕ) (r : Row) : Type 0 where
+-- what the tests of a head that opens a row showed: the kind stands in the version, the row may stand there, and the low byte is in its range
+pub record Passed (v w q : ℕ) (r : Row) : Type 0 where
   pub opened : Opened (w / 256) r
+  pub versed : Has v (w / 256)
   pub stands : r .stands ≡ q
   pub low : r .low ≤ w % 256
   pub high : w % 256 ≤ r .high
@@ -52,17 +56,20 @@ by-tests true false true r r' e = never cc
 by-tests true true z r r' e = never cc
 by-tests false y z r r' e = never cc
 
-pub passed : (q w : ℕ) (r : Row) → 0 < q → headOf q w ≡ Opens r → Passed w q r
-unfolding headOf
-passed q w r h e =
+pub passed : (v q w : ℕ) (r : Row) → 0 < q → headOf v q w ≡ Opens r → Passed v w q r
+unfolding headOf allowed rowOf
+passed v q w r h e =
     let o : Row = rowOf w in
-    let t = by-tests (eqb (o .stands) q) (ltb (w % 256) (o .low)) (ltb (o .high) (w % 256)) o r e in
-    let s : o .stands ≡ q = eqb-true (o .stands) q (t .0) in
-    let p : Passed w q o
+    let t = by-tests (allowed o v q) (ltb (w % 256) (o .low)) (ltb (o .high) (w % 256)) o r e in
+    let a = and-eq-true-iff (eqb (o .stands) q) (leb (o .first) v && leb v (o .last)) .0 (t .0) in
+    let b = and-eq-true-iff (leb (o .first) v) (leb v (o .last)) .0 (a .1) in
+    let s : o .stands ≡ q = eqb-true (o .stands) q (a .0) in
+    let p : Passed v w q o
     = record {
       opened = opened-at (w / 256) (omega arith);
+      versed = record { since = leb-true (o .first) v (b .0); until = leb-true v (o .last) (b .1) };
       stands = s;
       low = ltb-false (w % 256) (o .low) (t .1);
       high = ltb-false (o .high) (w % 256) (t .2);
     } in
-    subst (Passed w q) (t .3) p
+    subst (Passed v w q) (t .3) p

@@ -1,15 +1,15 @@
 -- The words of a term determine it, in either language. A reader of words that tests nothing (`back`) gives every term in its ranges back from
 -- its words; so two such terms with the same words are one.
 -- Assumes nothing.
-use Prim.Native.Nat.{ℕ, zero, suc, _+_, _-_, _/_, _%_, _≤_, max}
-use mathlib.Core.Path.{_≡_, refl, sym, ap, _∙_}
+use Prim.Native.Nat.{ℕ, zero, suc, _+_, _*_, _-_, _/_, _%_, _≤_, max}
+use mathlib.Core.Path.{_≡_, refl, sym, ap, _∙_, subst}
 use mathlib.Core.List.{List, [], _∷_, _++_, append-assoc}
 use native.Mathlib.Omega.{arith}
 use lib.ListN.{getD}
-use Rattle.language.specs.Term.{Lang, Term, Terms, Arms, var, kvar, fun, call, bind, con, cases, nil, cons, none, arm, size, sizeᵃ}
-use Rattle.language.specs.Kinds.{mostByte}
-use Rattle.language.specs.Words.{head, added, words, wordsᵗ, wordsᵃ}
-use Rattle.language.specs.Limits.{Ranged, Rangedᵗ, Rangedᵃ, r-var, r-kvar, r-fun, r-call, r-bind, r-con, r-cases, r-nil, r-cons, r-none, r-arm, depth, depthᵗ, depthᵃ}
+use Rattle.language.specs.Term.{Lang, Term, Terms, Arms, var, kvar, fun, call, bind, con, cases, num, op, nil, cons, none, arm, size, sizeᵃ}
+use Rattle.language.specs.Kinds.{mostByte, operands}
+use Rattle.language.specs.Words.{head, wordEnd, added, words, wordsᵗ, wordsᵃ}
+use Rattle.language.specs.Limits.{Ranged, Rangedᵗ, Rangedᵃ, r-var, r-kvar, r-fun, r-call, r-bind, r-con, r-cases, r-num, r-op, r-nil, r-cons, r-none, r-arm, depth, depthᵗ, depthᵃ}
 use Rattle.trust.specs.Promises.{WordsDetermine}
 use Rattle.trust.proofs.Ranges.{added-one}
 
@@ -45,9 +45,14 @@ module _ (p : List ℕ → Back Term) where
   back-con t [] = lost
   back-con t (n ∷ ws) = after (back-list n ws) (λ ps r. found (con t ps) r)
 
+  back-num : List ℕ → Back Term
+  back-num [] = lost
+  back-num (h ∷ []) = lost
+  back-num (h ∷ l ∷ ws) = found (num (h * wordEnd + l)) ws
+
   -- what follows a head, by its kind: the low byte a, and the words ws
   back-kinds : Lang → List (ℕ → List ℕ → Back Term)
-  unfolding after back-list back-arms back-con
+  unfolding after back-list back-arms back-con back-num
   back-kinds L =
       (λ a ws. lost)
       ∷ (λ a ws. found (var a) ws)
@@ -59,6 +64,8 @@ module _ (p : List ℕ → Back Term) where
       ∷ (λ a ws. after (p ws) (λ m r. after (back-arms a r) (λ ps r'. found (cases m ps) r')))
       ∷ (λ a ws. lost)
       ∷ (λ a ws. found (kvar a) ws)
+      ∷ (λ a ws. back-num ws)
+      ∷ (λ a ws. after (back-list operands ws) (λ ps r. found (op a ps) r))
       ∷ []
 
   -- a term whose head is the word w
@@ -102,7 +109,7 @@ at-fun L g (suc (suc o)) a ws h l m e = absurd (omega arith)
 
 module _ (L : Lang) where
   mutual
-    unfolding words size sizeᵃ depth back-kinds back-con back-list back-arms
+    unfolding words size sizeᵃ depth back-kinds back-con back-num back-list back-arms
 
     term-back : {t : Term} → Ranged L t → (g : ℕ) (r : List ℕ) → depth t ≤ g → back L g (words L t ++ r) ≡ found t r
     term-back (r-var {i} l) g r d = at-head L g 1 i r d l
@@ -123,6 +130,12 @@ module _ (L : Lang) where
         at-head L g 7 (sizeᵃ ps) ((words L m ++ wordsᵃ L ps) ++ r) (omega arith) (omega arith)
         ∙ rw (append-assoc (words L m) (wordsᵃ L ps) r)
         (after-is _ (term-back x (g - 1) (wordsᵃ L ps ++ r) (omega arith)) (after-is _ (arms-back y (g - 1) r (omega arith)) refl))
+    term-back (r-num {n} l) g r d =
+        let m : n / wordEnd * wordEnd + n % wordEnd ≡ n = omega arith in
+        at-head L g 10 0 (n / wordEnd ∷ n % wordEnd ∷ r) d (omega arith) ∙ ap (λ x. found (num x) r) m
+    term-back (r-op {o} {ps} l u y) g r d =
+        at-head L g 11 o (wordsᵗ L ps ++ r) (omega arith) (omega arith)
+        ∙ after-is _ (subst (λ i. back-list (back L (g - 1)) i (wordsᵗ L ps ++ r) ≡ found ps r) u (terms-back y (g - 1) r (omega arith))) refl
 
     terms-back : {ts : Terms} → Rangedᵗ L ts → (g : ℕ) (r : List ℕ) → depthᵗ ts ≤ g → back-list (back L g) (size ts) (wordsᵗ L ts ++ r) ≡ found ts r
     terms-back r-nil g r d = refl

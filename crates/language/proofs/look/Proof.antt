@@ -23,5 +23,11 @@ returns-3 c = search ways
 returns-4 : tie.Need-returns-4
 returns-4 c = search ways
 
+returns-5 : tie.Need-returns-5
+returns-5 c = search ways
+
+returns-6 : tie.Need-returns-6
+returns-6 c = search ways
+
 pub look-spec : {M : Type 1} → statement M
-look-spec = tie.close (tie.spec row-of-requires cast-low returns returns-2 returns-3 returns-4)
+look-spec = tie.close (tie.spec row-of-requires cast-low returns returns-2 returns-3 returns-4 returns-5 returns-6)
