@@ -10,6 +10,7 @@ use lib.Dec.{ltb}
 use lib.ListN.{length, getD}
 use borrow.Author.Needs.{needs}
 use borrow.Author.Tests.{lt-ltb, le-ltb, lt-leb, le-leb, ltb-true}
+use Rattle.language.specs.Setting.{Setting}
 use Rattle.language.specs.Kinds.{mostArguments, atArm, headOf}
 use Rattle.language.specs.Dead.{dead}
 use Rattle.language.specs.Read.{Got, found, fault, then, word, headed, second, unlike}
@@ -70,24 +71,24 @@ module _ (s : List ℕ) (at w : ℕ) (before : List (ℕ × ℕ)) {y : Count} (e
     u-is h = rw (is-found (second s at) e i, ← tested, h)
 
 -- an arm's two words
-module _ (s : List ℕ) (before : List (ℕ × ℕ)) (at : ℕ) where
-  pub h-none : length s ≤ at → Not 3 (length s) ≡ countOf (arity s before at)
+module _ (S : Setting) (s : List ℕ) (before : List (ℕ × ℕ)) (at : ℕ) where
+  pub h-none : length s ≤ at → Not 3 (length s) ≡ countOf (arity S s before at)
   unfolding arity countOf
   h-none h = simp (le-ltb _ _ h)
 
-  module _ (h : at < length s) {r : Head} (e : r ≡ headOf atArm (getD s at 0)) where
-    pub h-refused : {b : ℕ} → r ≡ Refused b → Not b at ≡ countOf (arity s before at)
+  module _ (h : at < length s) {r : Head} (e : r ≡ headOf (S .version) atArm (getD s at 0)) where
+    pub h-refused : {b : ℕ} → r ≡ Refused b → Not b at ≡ countOf (arity S s before at)
     unfolding arity countOf
     h-refused i = simp (lt-ltb _ _ h, ← e, i)
 
-    pub h-second : {f : Row} {x : Count} → r ≡ Opens f → x ≡ countOf (unlike s before (getD s at 0 % 256) (at + 1)) → x ≡ countOf (arity s before at)
+    pub h-second : {f : Row} {x : Count} → r ≡ Opens f → x ≡ countOf (unlike s before (getD s at 0 % 256) (at + 1)) → x ≡ countOf (arity S s before at)
     unfolding arity
     h-second i k = simp (lt-ltb _ _ h, ← e, i) k
 
 -- what an arm's two words tell where they are read
-pub arity-known : (s : List ℕ) (before : List (ℕ × ℕ)) (at : ℕ) {m to : ℕ} → arity s before at ≡ found m to → (at < length s) × (m ≤ mostArguments)
+pub arity-known : (S : Setting) (s : List ℕ) (before : List (ℕ × ℕ)) (at : ℕ) {m to : ℕ} → arity S s before at ≡ found m to → (at < length s) × (m ≤ mostArguments)
 unfolding arity
-arity-known s before at {m} {to} e = go (ltb at (length s)) (ltb-true at (length s)) (headOf atArm (getD s at 0)) e
+arity-known S s before at {m} {to} e = go (ltb at (length s)) (ltb-true at (length s)) (headOf (S .version) atArm (getD s at 0)) e
   where
     go : (b : Bool) → (b ≡ true → at < length s) → (h : Head)
         → cond b (headed h at (λ r. unlike s before (getD s at 0 % 256) (at + 1))) (fault 3 (length s)) ≡ found m to → (at < length s) × (m ≤ mostArguments)
@@ -95,14 +96,14 @@ arity-known s before at {m} {to} e = go (ltb at (length s)) (ltb-true at (length
     go true l (Opens r) e = (l refl, holds-found (unlike-good s before (getD s at 0 % 256) (at + 1)) e .second .most)
     go false l h e = never cc
 
-module _ (s : List ℕ) (before : List (ℕ × ℕ)) (at : ℕ) {y : Count} (c : y ≡ countOf (arity s before at)) {m i : ℕ} (l : y ≡ Is m i) where
+module _ (S : Setting) (s : List ℕ) (before : List (ℕ × ℕ)) (at : ℕ) {y : Count} (c : y ≡ countOf (arity S s before at)) {m i : ℕ} (l : y ≡ Is m i) where
   pub a-there : at < length s
-  a-there = arity-known s before at (is-found _ c l) .0
+  a-there = arity-known S s before at (is-found _ c l) .0
 
-module _ (s : List ℕ) (before : List (ℕ × ℕ)) (at : ℕ) {A : Type 0} (f : ℕ → ℕ → Got A) where
-  pub arity-then : word s at (λ w. headed (headOf atArm w) at (λ r. then (unlike s before (w % 256) (at + 1)) f)) ≡ then (arity s before at) f
+module _ (S : Setting) (s : List ℕ) (before : List (ℕ × ℕ)) (at : ℕ) {A : Type 0} (f : ℕ → ℕ → Got A) where
+  pub arity-then : word s at (λ w. headed (headOf (S .version) atArm w) at (λ r. then (unlike s before (w % 256) (at + 1)) f)) ≡ then (arity S s before at) f
   unfolding arity then
-  arity-then = go (ltb at (length s)) (headOf atArm (getD s at 0))
+  arity-then = go (ltb at (length s)) (headOf (S .version) atArm (getD s at 0))
     where
       second-word : Got ℕ
       second-word = unlike s before (getD s at 0 % 256) (at + 1)

@@ -1,6 +1,7 @@
 -- What the readers of second words say of what they read, and the marks by which they know the arms of a match.
 use Prim.Native.Nat.{ℕ, _+_, _*_, _/_, _%_}
 use mathlib.Core.List.{List, map}
+use Rattle.language.specs.Setting.{Setting}
 use Rattle.language.specs.Kinds.{atArm, headOf}
 use Rattle.language.specs.Read.{Got, found, fault, word, headed, unlike}
 use Rattle.arities.specs.declared.Count.{Count}
@@ -22,5 +23,5 @@ unfoldable pub unmarked : List ℕ → List (ℕ × ℕ)
 unmarked ms = map unmark ms
 
 -- an arm's two words, behind arms with the tags and arities `before`: the second, where the first is an arm's head
-unfoldable pub arity : List ℕ → List (ℕ × ℕ) → ℕ → Got ℕ
-arity s before at = word s at (λ w. headed (headOf atArm w) at (λ r. unlike s before (w % 256) (at + 1)))
+unfoldable pub arity : Setting → List ℕ → List (ℕ × ℕ) → ℕ → Got ℕ
+arity S s before at = word s at (λ w. headed (headOf (S .version) atArm w) at (λ r. unlike s before (w % 256) (at + 1)))

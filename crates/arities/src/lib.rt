@@ -4,6 +4,7 @@ use language::LOW_BYTE;
 ghost use mathlib.Core.Path.{_≡_};
 ghost use Prim.Native.Nat.{_/_, _%_};
 ghost use Rattle.language.specs.Dead.{dead};
+ghost use Rattle.language.specs.Setting.{inVersion};
 ghost use Rattle.language.specs.Read.{second, unlike};
 ghost use Rattle.arities.specs.Marks.{markOf, unmarked, arity, countOf};
 
@@ -65,14 +66,14 @@ fn unlike_at(s: &[u16], at: usize, w: u16, marks: &[u16]) -> Count
 }
 
 // An arm's two words: its arity.
-pub fn arity_at(s: &[u16], at: usize, marks: &[u16]) -> Count
-    ensures { λ r. ⌜ r ≡ countOf (arity (now (s .entry)) (unmarked (now (marks .entry))) at) ⌝ }
+pub fn arity_at(version: u8, s: &[u16], at: usize, marks: &[u16]) -> Count
+    ensures { λ r. ⌜ r ≡ countOf (arity (inVersion version) (now (s .entry)) (unmarked (now (marks .entry))) at) ⌝ }
 {
     if s.len() <= at {
         return Count::Not(language::NONE_LEFT, s.len());
     }
     let w = s[at];
-    match language::look(language::AT_ARM, w) {
+    match language::look(version, language::AT_ARM, w) {
         Head::Refused(e) => Count::Not(e, at),
         Head::Opens(_) => unlike_at(s, at + 1, w, marks),
     }
