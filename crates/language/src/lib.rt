@@ -11,8 +11,10 @@ pub const MOST_ARMS: u8 = 32;
 // A head's number is its low byte, the remainder by this; its kind is the high byte.
 pub const LOW_BYTE: u16 = 256;
 
-// The last operation: add, subtract, less.
+// The last operation: add, subtract, less. And how many parts each has.
 const LAST_OPERATION: u8 = 2;
+
+pub const OPERANDS: usize = 2;
 
 // The versions of rules; and the first that has numbers and operations.
 pub const OLDEST: u8 = 1;

@@ -3,16 +3,18 @@
 -- Assumes nothing.
 use Prim.Native.Nat.{ℕ, _+_, _*_, _<_, _≤_}
 use mathlib.Core.Path.{_≡_, refl, sym, ap, _∙_}
-use mathlib.Core.Bool.{Bool, true, false, cond}
+use mathlib.Core.Bool.{Bool, true, false, cond, not, and-eq-true-iff}
 use mathlib.Core.List.{List}
 use native.Mathlib.Omega.{arith}
-use lib.Dec.{ltb, eqb}
+use lib.Dec.{ltb, leb, eqb}
 use lib.ListN.{length}
-use mir.Syntax.{w64}
+use mir.Syntax.{w8, w64}
 use mir.Val.{Fits}
 use borrow.Author.Needs.{needs}
-use borrow.Author.Tests.{lt-ltb, le-ltb, eq-eqb, ne-eqb, ltb-false}
+use borrow.Author.Tests.{lt-ltb, le-ltb, eq-eqb, ne-eqb, ltb-false, leb-true, not-true, not-false}
 use Rattle.language.specs.Term.{Term}
+use Rattle.language.specs.Setting.{Setting}
+use Rattle.language.specs.Kinds.{oldest, newest, known}
 use Rattle.language.specs.Limits.{deepest, mostWords}
 use Rattle.language.specs.Read.{noPlace, Got, found, fault, then, term, Reading, accepted, refused, reading, closed, ended, read}
 use Rattle.language.specs.Calls.{success, replyOf, checked, measured}
@@ -29,31 +31,46 @@ use Rattle.language.specs.declared.Answer.the-variants as answer
 use Rattle.language.proofs.Clash.{never}
 use Rattle.reading.proofs.Sums.{term-small}
 
--- the tests of lengths, before the term
-module _ (s : List ℕ) (at : ℕ) where
-  pub k-none : length s ≡ 0 → No 1 noPlace ≡ termStep (closed s at)
+-- the tests of the version and of lengths, before the term
+module _ (S : Setting) (s : List ℕ) (at : ℕ) {b : Bool} (e : b ≡ known (S .version)) where
+  pub k-unknown : not b ≡ true → No 11 noPlace ≡ termStep (closed S s at)
   unfolding closed stepOf
-  k-none z = simp (eq-eqb _ _ z)
+  k-unknown i = let k : known (S .version) ≡ false = sym e ∙ not-true b i in simp k
 
-  module _ (z : length s ≡ 0 → ⊥) where
-    pub k-many : mostWords < length s → No 2 noPlace ≡ termStep (closed s at)
+  module _ (i : not b ≡ false) where
+    is-known : known (S .version) ≡ true
+    is-known = sym e ∙ not-false b i
+
+    pub k-none : length s ≡ 0 → No 1 noPlace ≡ termStep (closed S s at)
     unfolding closed stepOf
-    k-many m = simp (ne-eqb _ _ z, lt-ltb _ _ m)
+    k-none z = simp (is-known, eq-eqb _ _ z)
 
-    pub k-term : length s ≤ mostWords → {y : Step} → y ≡ termStep (term s deepest 0 at) → y ≡ termStep (closed s at)
-    unfolding closed
-    k-term m h = simp (ne-eqb _ _ z, le-ltb _ _ m) h
+    module _ (z : length s ≡ 0 → ⊥) where
+      pub k-many : mostWords < length s → No 2 noPlace ≡ termStep (closed S s at)
+      unfolding closed stepOf
+      k-many m = simp (is-known, ne-eqb _ _ z, lt-ltb _ _ m)
+
+      pub k-term : length s ≤ mostWords → {y : Step} → y ≡ termStep (term S s deepest 0 at) → y ≡ termStep (closed S s at)
+      unfolding closed
+      k-term m h = simp (is-known, ne-eqb _ _ z, le-ltb _ _ m) h
+
+-- a known version fits in a byte
+pub k-byte : (v : ℕ) {b : Bool} → b ≡ known v → not b ≡ false → Fits w8 v
+unfolding known
+k-byte v {b} e i = record { fits = omega (arith, leb-true v newest (and-eq-true-iff (leb oldest v) (leb v newest) .0 (sym e ∙ not-false b i) .1)) }
 
 -- what is counted in a table of not too many words is small
-closed-small : (s : List ℕ) (at : ℕ) {y : Step} → y ≡ termStep (closed s at) → wordsOf y ≤ 7 * mostWords
+closed-small : (S : Setting) (s : List ℕ) (at : ℕ) {y : Step} → y ≡ termStep (closed S s at) → wordsOf y ≤ 7 * mostWords
 unfolding closed stepOf wordsOf
-closed-small s at h = go (eqb (length s) 0) (ltb mostWords (length s)) (ltb-false mostWords (length s)) h
+closed-small S s at h = go (known (S .version)) (eqb (length s) 0) (ltb mostWords (length s)) (ltb-false mostWords (length s)) h
   where
-    go : (b c : Bool) → (c ≡ false → length s ≤ mostWords) → {y : Step}
-        → y ≡ termStep (cond b (fault 1 noPlace) (cond c (fault 2 noPlace) (term s deepest 0 at))) → wordsOf y ≤ 7 * mostWords
-    go true c few h = omega (arith, ap wordsOf h)
-    go false true few h = omega (arith, ap wordsOf h)
-    go false false few h = omega (arith, term-small s deepest 0 at h, few refl)
+    go : (a b c : Bool) → (c ≡ false → length s ≤ mostWords) → {y : Step}
+        → y ≡ termStep (cond a (cond b (fault 1 noPlace) (cond c (fault 2 noPlace) (term S s deepest 0 at))) (fault 11 noPlace))
+        → wordsOf y ≤ 7 * mostWords
+    go true true c few h = omega (arith, ap wordsOf h)
+    go true false true few h = omega (arith, ap wordsOf h)
+    go true false false few h = omega (arith, term-small S s deepest 0 at h, few refl)
+    go false b c few h = omega (arith, ap wordsOf h)
 
 -- where reading stands after a step
 pub s-refused : {x : Step} {e p : ℕ} → x ≡ No e p → p ≡ standsAt x
@@ -111,12 +128,12 @@ unfolding stepOf replyOf measured imageLength
 measured-words (found t to) {c = c} h k = let e : passingLength t ≡ c = cc in ap success (omega (arith, of-image t))
 measured-words (fault n at) h k = never cc
 
-module _ (s : List ℕ) {y : Step} (h : y ≡ termStep (then (closed s 0) (ended s))) where
-  pub m-stop : {e p : ℕ} → y ≡ No e p → replyOf (answer.Refusal e p) ≡ measured (read s)
+module _ (S : Setting) (s : List ℕ) {y : Step} (h : y ≡ termStep (then (closed S s 0) (ended s))) where
+  pub m-stop : {e p : ℕ} → y ≡ No e p → replyOf (answer.Refusal e p) ≡ measured (read S s)
   unfolding read
   m-stop k = measured-stop _ h k
 
-  pub m-words : {to c : ℕ} {b : Bool} → y ≡ Next to b c → replyOf (answer.Count (c + imageWords)) ≡ measured (read s)
+  pub m-words : {to c : ℕ} {b : Bool} → y ≡ Next to b c → replyOf (answer.Count (c + imageWords)) ≡ measured (read S s)
   unfolding read
   m-words k = measured-words _ h k
 
@@ -124,13 +141,13 @@ module _ (s : List ℕ) {y : Step} (h : y ≡ termStep (then (closed s 0) (ended
   pub m-fits : {to c : ℕ} {b : Bool} → y ≡ Next to b c → Fits w64 (c + imageWords)
   unfolding wordsOf
   m-fits k =
-      let x = termStep (closed s 0) in
+      let x = termStep (closed S s 0) in
       record {
         fits = omega (
           arith,
-          closed-small s 0 {y = x} refl,
+          closed-small S s 0 {y = x} refl,
           ended-words (length s) (standsAt x) x,
-          ap wordsOf (sym k ∙ h ∙ sym (rule-step s (closed s 0))),
+          ap wordsOf (sym k ∙ h ∙ sym (rule-step s (closed S s 0))),
         );
       }
 
@@ -161,9 +178,11 @@ same-answer (answer.Refusal d p) (answer.Count n) e = never cc
 same-answer (answer.Refusal d p) (answer.Refusal f q) e = cc
 
 pub ruleset answers = (
+  k-unknown,
   k-none,
   k-many,
   k-term,
+  k-byte,
   s-refused,
   s-behind,
   e-refused,

@@ -7,6 +7,7 @@ use mathlib.Core.Bool.{Bool, true, false, cond, _&&_}
 use mathlib.Core.List.{List}
 use native.Mathlib.Omega.{arith}
 use Rattle.language.specs.Term.{Terms, con, size}
+use Rattle.language.specs.Setting.{Setting}
 use Rattle.language.specs.Run.{atom, atoms}
 use Rattle.language.specs.Read.{Got, found, fault, then, made, many, term}
 use Rattle.language.proofs.Clash.{never}
@@ -35,12 +36,29 @@ unfolding stepOf then
 goes α π β ρ (found a at) f {to = to} h k next = let e : at ≡ to = cc in rw e (next a (cc) (cc))
 goes α π β ρ (fault n at) f h k next = never cc
 
--- a larger thing, so many words longer
-pub grows : {A B : Type 0} (α : A → Bool) (π : A → ℕ) (β : B → Bool) (ρ : B → ℕ) (f : A → B) (g : Got A) {r x : Step} (b : Bool) (z k : ℕ)
-    → r ≡ stepOf α π g → ((a : A) → β (f a) ≡ b) → ((a : A) → ρ (f a) ≡ π a + z + k) → x ≡ grownOf b z k r → x ≡ stepOf β ρ (made f g)
+-- a fault of the one part is the whole's
+pub halts : {A B : Type 0} (α : A → Bool) (π : A → ℕ) (β : B → Bool) (ρ : B → ℕ) (f : A → B) (g : Got A) {r : Step} {e p : ℕ}
+    → r ≡ stepOf α π g → r ≡ No e p → No e p ≡ stepOf β ρ (made f g)
+unfolding stepOf made
+halts α π β ρ f (found a to) h k = never cc
+halts α π β ρ f (fault n at) h k = cc
+
+-- a thing of one part, all atoms or not as told, so many words longer
+pub forms : {A B : Type 0} (α : A → Bool) (π : A → ℕ) (β : B → Bool) (ρ : B → ℕ) (f : A → B) (g : Got A) {r : Step} {to z : ℕ} {b : Bool} (c : Bool)
+    (k : ℕ) → r ≡ stepOf α π g → r ≡ Next to b z → ((a : A) → β (f a) ≡ c) → ((a : A) → ρ (f a) ≡ π a + k) → Next to c (z + k) ≡ stepOf β ρ (made f g)
+unfolding stepOf made
+forms α π β ρ f (found a at) {to = to} {z = z} c k h l p q =
+    let i : at ≡ to = cc in
+    let w : π a ≡ z = cc in
+    simp (p a, q a, i, w)
+forms α π β ρ f (fault n at) c k h l p q = never cc
+
+-- a larger thing that is no atom, so many words longer
+pub grows : {A B : Type 0} (α : A → Bool) (π : A → ℕ) (β : B → Bool) (ρ : B → ℕ) (f : A → B) (g : Got A) {r x : Step} (z k : ℕ)
+    → r ≡ stepOf α π g → ((a : A) → β (f a) ≡ false) → ((a : A) → ρ (f a) ≡ π a + z + k) → x ≡ grownOf z k r → x ≡ stepOf β ρ (made f g)
 unfolding stepOf made grownOf
-grows α π β ρ f (found a at) b z k h p q e = e ∙ ap (grownOf b z k) h ∙ simp (p a, q a)
-grows α π β ρ f (fault n at) b z k h p q e = e ∙ ap (grownOf b z k) h
+grows α π β ρ f (found a at) z k h p q e = e ∙ ap (grownOf z k) h ∙ simp (p a, q a)
+grows α π β ρ f (fault n at) z k h p q e = e ∙ ap (grownOf z k) h
 
 -- what was read before, z words of it, all atoms or not as told; and behind it what a step says of the rest
 unfoldable pub joinedOf : Bool → ℕ → Step → Step
@@ -80,11 +98,11 @@ unfolding chainLength
 con-words a ts = by-test (atoms ts) (λ q. simp q (omega (arith, of-con a ts q))) (λ q. simp q (omega (arith, of-con-unfinished a ts q)))
 
 -- a constructor of the m terms that were read
-pub of-construct : (s : List ℕ) (d n m at a : ℕ) {r x : Step} → r ≡ termsStep (many (term s d n) m at) → x ≡ builtOf m r
-    → x ≡ termStep (made (con a) (many (term s d n) m at))
+pub of-construct : (S : Setting) (s : List ℕ) (d n m at a : ℕ) {r x : Step} → r ≡ termsStep (many (term S s d n) m at) → x ≡ builtOf m r
+    → x ≡ termStep (made (con a) (many (term S s d n) m at))
 unfolding stepOf made builtOf atom
-of-construct s d n m at a h e = go (many-good s d (term s d) (term-good s d) n m at) h e
+of-construct S s d n m at a h e = go (many-good S s d (term S s d) (term-good S s d) n m at) h e
   where
-    go : {g : Got Terms} → Holds (Goodᵗ s d n m at) g → {r x : Step} → r ≡ termsStep g → x ≡ builtOf m r → x ≡ termStep (made (con a) g)
+    go : {g : Got Terms} → Holds (Goodᵗ S s d n m at) g → {r x : Step} → r ≡ termsStep g → x ≡ builtOf m r → x ≡ termStep (made (con a) g)
     go (held {a = ts} {to} q) h e = e ∙ ap (builtOf m) h ∙ rw (← q .counted) (ap (Next to (atoms ts)) (con-words a ts))
     go left h e = e ∙ ap (builtOf m) h

@@ -22,9 +22,12 @@ aWord = 65536
 abbrev pub small : ℕ
 small = 65536 * 65536
 
--- the words of a variable's passing form, and those that each other form has besides its parts' passing forms and chains
+-- the words of a variable's passing form and of a number's, and those that each other form has besides its parts' passing forms and chains
 abbrev pub variableWords : ℕ
 variableWords = 4
+
+abbrev pub numberWords : ℕ
+numberWords = 6
 
 abbrev pub functionWords : ℕ
 functionWords = 6
@@ -37,6 +40,9 @@ letWords = 7
 
 abbrev pub constructorWords : ℕ
 constructorWords = 5
+
+abbrev pub operationWords : ℕ
+operationWords = 4
 
 abbrev pub matchWords : ℕ
 matchWords = 5
@@ -82,10 +88,10 @@ unfoldable pub wordsOf : Step → ℕ
 wordsOf (Next to b z) = z
 wordsOf (No e p) = 0
 
--- a larger thing: z words more of a part before it and by words of its own; all atoms or not as told
-unfoldable pub grownOf : Bool → ℕ → ℕ → Step → Step
-grownOf b z by (Next to c y) = Next to b (y + z + by)
-grownOf b z by (No e p) = No e p
+-- a larger thing that is no atom: z words more of a part before it and by words of its own
+unfoldable pub grownOf : ℕ → ℕ → Step → Step
+grownOf z by (Next to c y) = Next to false (y + z + by)
+grownOf z by (No e p) = No e p
 
 -- a constructor of m arguments
 unfoldable pub builtOf : ℕ → Step → Step

@@ -7,16 +7,22 @@ use language::Parts;
 use language::Row;
 ghost use mathlib.Core.Path.{_≡_};
 ghost use Prim.Native.Nat.{_+_, _*_, _≤_, _<_};
+ghost use mathlib.Core.Bool.{cond};
 ghost use mathlib.Core.List.{[]};
+ghost use lib.Dec.{ltb};
 ghost use lib.ListN.{length};
+ghost use Rattle.language.specs.Term.{var, num};
+ghost use Rattle.language.specs.Setting.{inVersion};
 ghost use Rattle.language.specs.Kinds.{mostArms, mostByte};
-ghost use Rattle.language.specs.Read.{then, many, armsOf, opened, term, closed, ended, read};
+ghost use Rattle.language.specs.Read.{found, fault, then, made, number, many, armsOf, opened, term, closed, ended, read};
 ghost use Rattle.language.specs.Calls.{replyOf, checked, measured};
 ghost use Rattle.reading.specs.Steps.{aWord, small, termStep, termsStep, armsStep, FewArms, wordsOf, grownOf, builtOf, Roomy, standsAt, endedAt};
 ghost use Rattle.reading.specs.Answers.{checkedReply};
 
-// The words of a variable's passing form, and those that each other form has besides its parts' passing forms and chains.
+// The words of a variable's passing form and of a number's, and those that each other form has besides its parts' passing forms and chains.
 const VARIABLE_WORDS: usize = 4;
+
+const NUMBER_WORDS: usize = 6;
 
 const FUNCTION_WORDS: usize = 6;
 
@@ -25,6 +31,8 @@ const CALL_WORDS: usize = 6;
 const LET_WORDS: usize = 7;
 
 const CONSTRUCTOR_WORDS: usize = 5;
+
+const OPERATION_WORDS: usize = 4;
 
 const MATCH_WORDS: usize = 5;
 
@@ -51,14 +59,14 @@ pub enum Checked {
     Refusal(u8, usize),
 }
 
-// A larger thing: z words more of a part before it and by words of its own; all atoms or not as told.
-fn grown(r: Step, all: bool, z: usize, by: usize) -> Step
+// A larger thing that is no atom: z words more of a part before it and by words of its own.
+fn grown(r: Step, z: usize, by: usize) -> Step
     requires { ⌜ (wordsOf r ≤ small) × (z ≤ small) × (by ≤ small) ⌝ }
-    ensures { λ x. ⌜ x ≡ grownOf all z by r ⌝ }
+    ensures { λ x. ⌜ x ≡ grownOf z by r ⌝ }
 {
     match r {
         Step::No(e, p) => Step::No(e, p),
-        Step::Next(to, _, y) => Step::Next(to, all, y + z + by),
+        Step::Next(to, _, y) => Step::Next(to, false, y + z + by),
     }
 }
 
@@ -79,10 +87,33 @@ fn built(r: Step, m: usize) -> Step
     }
 }
 
-// A term, with so many levels of depth left, under so many source variables.
-fn term_at(s: &[u16], at: usize, left: usize, bound: usize) -> Step
+// A variable, at this place, with this index.
+fn variable_at(at: usize, index: usize, bound: usize) -> Step
+    requires { ⌜ at < aWord ⌝ }
+    ensures { λ r. ⌜ r ≡ termStep (cond (ltb index bound) (found (var index) (at + 1)) (fault 7 at)) ⌝ }
+{
+    if index < bound {
+        Step::Next(at + 1, true, VARIABLE_WORDS)
+    } else {
+        Step::No(language::UNBOUND, at)
+    }
+}
+
+// A number, from the first of its two words on: these are tested for 3 only.
+fn number_at(s: &[u16], at: usize) -> Step
+    requires { ⌜ at ≤ aWord ⌝ }
+    ensures { λ r. ⌜ r ≡ termStep (made num (number (now (s .entry)) at)) ⌝ }
+{
+    if s.len() <= at + 1 {
+        return Step::No(language::NONE_LEFT, s.len());
+    }
+    Step::Next(at + 2, true, NUMBER_WORDS)
+}
+
+// A term in version v, with so many levels of depth left, under so many source variables.
+fn term_at(v: u8, s: &[u16], at: usize, left: usize, bound: usize) -> Step
     requires { ⌜ (length (now s) ≤ aWord) × (bound + aWord * left ≤ small) ⌝ }
-    ensures { λ r. ⌜ r ≡ termStep (term (now (s .entry)) left bound at) ⌝ }
+    ensures { λ r. ⌜ r ≡ termStep (term (inVersion v) (now (s .entry)) left bound at) ⌝ }
 {
     if s.len() <= at {
         return Step::No(language::NONE_LEFT, s.len());
@@ -91,64 +122,63 @@ fn term_at(s: &[u16], at: usize, left: usize, bound: usize) -> Step
         return Step::No(language::TOO_DEEP, at);
     }
     let w = s[at];
-    match language::look(language::AT_TERM, w) {
+    match language::look(v, language::AT_TERM, w) {
         Head::Refused(e) => Step::No(e, at),
-        Head::Opens(row) => opened_at(s, at, left - 1, bound, (w % LOW_BYTE) as usize, row),
+        Head::Opens(row) => opened_at(v, s, at, left - 1, bound, (w % LOW_BYTE) as usize, row),
     }
 }
 
 // The term whose head, at this place, has this low byte and this row; its parts have so many levels of depth left.
-fn opened_at(s: &[u16], at: usize, left: usize, bound: usize, low: usize, row: Row) -> Step
+fn opened_at(v: u8, s: &[u16], at: usize, left: usize, bound: usize, low: usize, row: Row) -> Step
     requires { ⌜ (length (now s) ≤ aWord) × (bound + aWord * (left + 1) ≤ small) × (at < length (now s)) × (low ≤ mostByte) × (row .binds ≤ 1)
         × FewArms (row .parts) low ⌝ }
-    ensures { λ r. ⌜ r ≡ termStep (opened (now (s .entry)) (term (now (s .entry)) left) bound at low (row .binds) (row .parts)) ⌝ }
+    ensures { λ r. ⌜ r ≡ termStep (opened (inVersion v) (now (s .entry)) (term (inVersion v) (now (s .entry)) left) bound at low (row .binds) (row .parts)) ⌝ }
 {
     let next = at + 1;
     let binds = row.binds as usize;
     let parts = row.parts;
     match parts {
-        Parts::Nothing => {
-            if low < bound {
-                Step::Next(next, true, VARIABLE_WORDS)
-            } else {
-                Step::No(language::UNBOUND, at)
-            }
-        }
-        Parts::Body => {
-            let inner = bound + low + binds;
-            grown(term_at(s, next, left, inner), true, 0, FUNCTION_WORDS)
-        }
-        Parts::FunctionAndArguments => match term_at(s, next, left, bound) {
+        Parts::Nothing => variable_at(at, low, bound),
+        Parts::Body => match term_at(v, s, next, left, bound + low + binds) {
             Step::No(e, p) => Step::No(e, p),
-            Step::Next(to, _, z) => grown(terms_at(s, to, left, bound, low), false, z, CALL_WORDS),
+            Step::Next(to, _, z) => Step::Next(to, true, z + FUNCTION_WORDS),
         },
-        Parts::BoundAndBody => match term_at(s, next, left, bound) {
+        Parts::FunctionAndArguments => match term_at(v, s, next, left, bound) {
             Step::No(e, p) => Step::No(e, p),
-            Step::Next(to, _, z) => grown(term_at(s, to, left, bound + binds), false, z, LET_WORDS),
+            Step::Next(to, _, z) => grown(terms_at(v, s, to, left, bound, low), z, CALL_WORDS),
+        },
+        Parts::BoundAndBody => match term_at(v, s, next, left, bound) {
+            Step::No(e, p) => Step::No(e, p),
+            Step::Next(to, _, z) => grown(term_at(v, s, to, left, bound + binds), z, LET_WORDS),
         },
         Parts::CountAndArguments => match arities::second_at(s, next) {
             Count::Not(e, second) => Step::No(e, second),
-            Count::Is(m, to) => built(terms_at(s, to, left, bound, m as usize), m as usize),
+            Count::Is(m, to) => built(terms_at(v, s, to, left, bound, m as usize), m as usize),
         },
-        Parts::SubjectAndArms => match term_at(s, next, left, bound) {
+        Parts::SubjectAndArms => match term_at(v, s, next, left, bound) {
             Step::No(e, p) => Step::No(e, p),
-            Step::Next(to, _, z) => grown(arms_at(s, to, left, bound, low), false, z, MATCH_WORDS),
+            Step::Next(to, _, z) => grown(arms_at(v, s, to, left, bound, low), z, MATCH_WORDS),
         },
         Parts::ArityAndBody => Step::No(language::WRONG_KIND, at),
+        Parts::HighAndLow => number_at(s, next),
+        Parts::TwoParts => {
+            let chain = terms_at(v, s, next, left, bound, language::OPERANDS);
+            grown(chain, 0, OPERATION_WORDS)
+        }
     }
 }
 
 // So many terms, one after the other.
-fn terms_at(s: &[u16], at: usize, left: usize, bound: usize, count: usize) -> Step
+fn terms_at(v: u8, s: &[u16], at: usize, left: usize, bound: usize, count: usize) -> Step
     requires { ⌜ (length (now s) ≤ aWord) × (bound + aWord * left ≤ small) × (count < aWord) ⌝ }
-    ensures { λ r. ⌜ r ≡ termsStep (many (term (now (s .entry)) left bound) count at) ⌝ }
+    ensures { λ r. ⌜ r ≡ termsStep (many (term (inVersion v) (now (s .entry)) left bound) count at) ⌝ }
 {
     let mut next = at;
     let mut all = true;
     let mut words = 0;
     let mut i = 0;
     while i < count {
-        match term_at(s, next, left, bound) {
+        match term_at(v, s, next, left, bound) {
             Step::No(e, there) => return Step::No(e, there),
             Step::Next(to, b, z) => {
                 next = to;
@@ -162,20 +192,20 @@ fn terms_at(s: &[u16], at: usize, left: usize, bound: usize, count: usize) -> St
 }
 
 // The arms of a match, so many. Each arm's mark is kept for those behind it.
-fn arms_at(s: &[u16], at: usize, left: usize, bound: usize, count: usize) -> Step
+fn arms_at(v: u8, s: &[u16], at: usize, left: usize, bound: usize, count: usize) -> Step
     requires { ⌜ (length (now s) ≤ aWord) × (bound + aWord * (left + 1) ≤ small) × (count ≤ mostArms) ⌝ }
-    ensures { λ r. ⌜ r ≡ armsStep (armsOf (now (s .entry)) (term (now (s .entry)) left) [] bound count at) ⌝ }
+    ensures { λ r. ⌜ r ≡ armsStep (armsOf (inVersion v) (now (s .entry)) (term (inVersion v) (now (s .entry)) left) [] bound count at) ⌝ }
 {
     let mut marks = [0u16; language::MOST_ARMS as usize];
     let mut next = at;
     let mut words = 0;
     let mut i = 0;
     while i < count {
-        match arities::arity_at(s, next, &marks[..i]) {
+        match arities::arity_at(v, s, next, &marks[..i]) {
             Count::Not(e, p) => return Step::No(e, p),
             Count::Is(m, body) => {
                 marks[i] = arities::mark(s[next], m);
-                match term_at(s, body, left, bound + m as usize) {
+                match term_at(v, s, body, left, bound + m as usize) {
                     Step::No(e, p) => return Step::No(e, p),
                     Step::Next(to, _, z) => {
                         next = to;
@@ -189,17 +219,20 @@ fn arms_at(s: &[u16], at: usize, left: usize, bound: usize, count: usize) -> Ste
     Step::Next(next, false, words)
 }
 
-// The closed term that stands at a place of a table, after the tests of the table's length.
-fn closed_at(s: &[u16], at: usize) -> Step
-    ensures { λ r. ⌜ r ≡ termStep (closed (now (s .entry)) at) ⌝ }
+// The closed term that stands at a place of a table, after the tests of the version and of the table's length.
+fn closed_at(version: u16, s: &[u16], at: usize) -> Step
+    ensures { λ r. ⌜ r ≡ termStep (closed (inVersion version) (now (s .entry)) at) ⌝ }
 {
+    if !language::is_known(version) {
+        return Step::No(language::WRONG_VERSION, language::NO_PLACE);
+    }
     if s.len() == 0 {
         return Step::No(language::NO_WORDS, language::NO_PLACE);
     }
     if language::MOST_WORDS < s.len() {
         return Step::No(language::TOO_MANY_WORDS, language::NO_PLACE);
     }
-    term_at(s, at, language::DEEPEST, 0)
+    term_at(version as u8, s, at, language::DEEPEST, 0)
 }
 
 // Where reading stands after a step: at the word behind what was read, or at the place of the refusal.
@@ -242,10 +275,10 @@ fn start<'a>(table: &'a [u16]) -> Reader<'a>
 }
 
 // The closed term at the reading place.
-fn closed_here<'a>(r: Reader<'a>) -> Step
-    ensures { λ x. ⌜ x ≡ termStep (closed (now (r .entry .table)) (r .entry .next)) ⌝ }
+fn closed_here<'a>(version: u16, r: Reader<'a>) -> Step
+    ensures { λ x. ⌜ x ≡ termStep (closed (inVersion version) (now (r .entry .table)) (r .entry .next)) ⌝ }
 {
-    closed_at(r.table, r.next)
+    closed_at(version, r.table, r.next)
 }
 
 // The reading place moved to another word.
@@ -266,29 +299,29 @@ fn ended_here<'a>(r: Reader<'a>, step: Step) -> Step
 }
 
 // The rule that a table holds: from its first word on a closed term, and behind that, where the reading place then stands, no word.
-fn rule_of(s: &[u16]) -> Step
-    ensures { λ x. ⌜ x ≡ termStep (then (closed (now (s .entry)) 0) (ended (now (s .entry)))) ⌝ }
+fn rule_of(version: u16, s: &[u16]) -> Step
+    ensures { λ x. ⌜ x ≡ termStep (then (closed (inVersion version) (now (s .entry)) 0) (ended (now (s .entry)))) ⌝ }
 {
     let first = start(s);
-    let step = closed_here(first);
+    let step = closed_here(version, first);
     ended_here(moved(first, stands(step)), step)
 }
 
 // How many words the image of a rule has.
-pub fn measure(s: &[u16]) -> Answer
-    ensures { λ r. ⌜ replyOf r ≡ measured (read (now (s .entry))) ⌝ }
+pub fn measure(version: u16, s: &[u16]) -> Answer
+    ensures { λ r. ⌜ replyOf r ≡ measured (read (inVersion version) (now (s .entry))) ⌝ }
 {
-    match rule_of(s) {
+    match rule_of(version, s) {
         Step::No(e, p) => Answer::Refusal(e, p),
         Step::Next(_, _, z) => Answer::Count(z + IMAGE_WORDS),
     }
 }
 
 // Whether the words are a rule: they are where their image can be measured.
-pub fn check(s: &[u16]) -> Checked
-    ensures { λ r. ⌜ checkedReply r ≡ checked (read (now (s .entry))) ⌝ }
+pub fn check(version: u16, s: &[u16]) -> Checked
+    ensures { λ r. ⌜ checkedReply r ≡ checked (read (inVersion version) (now (s .entry))) ⌝ }
 {
-    match measure(s) {
+    match measure(version, s) {
         Answer::Refusal(e, p) => Checked::Refusal(e, p),
         Answer::Count(_) => Checked::Success,
     }

@@ -23,6 +23,8 @@ use Rattle.arities.proofs.second_at.Reads as second-at-reads
 use Rattle.language.proofs.look.Reads as look-reads
 use Rattle.reading.proofs.built.Reads as built-reads
 use Rattle.reading.proofs.grown.Reads as grown-reads
+use Rattle.reading.proofs.number_at.Reads as number-at-reads
+use Rattle.reading.proofs.variable_at.Reads as variable-at-reads
 use Rattle.reading.proofs.+arms_at+opened_at+term_at+terms_at.{statement}
 use Rattle.reading.proofs.+arms_at+opened_at+term_at+terms_at.Tie.{close}
 use native.Mathlib.Omega.{arith}
@@ -31,6 +33,7 @@ use mathlib.Core.Bool.{true}
 use mathlib.Core.List.{[]}
 use mathlib.Core.Logic.{inl, inr, ⊎-elim}
 use lib.ListN.{length, take, length-take}
+use Rattle.language.specs.Setting.{inVersion}
 use Rattle.language.specs.Kinds.{mostArms}
 use Rattle.language.specs.Read.{many, armsOf, term}
 use Rattle.arities.specs.Marks.{unmarked}
@@ -44,16 +47,16 @@ abbrev rank : ℕ → ℕ → ℕ
 rank d n = 3 * d + n
 
 abbrev μ-arms-at : Measures 1 arms-at-kinds.ps ℕ
-μ-arms-at κs a = rank (a .1 .1 .0) 1
+μ-arms-at κs a = rank (a .1 .1 .1 .0) 1
 
 abbrev μ-opened-at : Measures 1 opened-at-kinds.ps ℕ
-μ-opened-at κs a = rank (a .1 .1 .0) 2
+μ-opened-at κs a = rank (a .1 .1 .1 .0) 2
 
 abbrev μ-term-at : Measures 1 term-at-kinds.ps ℕ
-μ-term-at κs a = rank (a .1 .1 .0) 0
+μ-term-at κs a = rank (a .1 .1 .1 .0) 0
 
 abbrev μ-terms-at : Measures 1 terms-at-kinds.ps ℕ
-μ-terms-at κs a = rank (a .1 .1 .0) 1
+μ-terms-at κs a = rank (a .1 .1 .1 .0) 1
 
 abbrev arms-at-at : ℕ → In 1 arms-at-kinds.ps
 arms-at-at t = and 1 arms-at-kinds.ps (is 1 arms-at-kinds.ps μ-arms-at t) arms-at.Pre
@@ -80,39 +83,43 @@ abbrev terms-at-below : ℕ → In 1 terms-at-kinds.ps
 terms-at-below t = and 1 terms-at-kinds.ps (falls 1 terms-at-kinds.ps _<_ μ-terms-at t) terms-at.Pre
 
 abbrev arms-at-Inv-loop : arms-at-lts.InvT-loop
-arms-at-Inv-loop s at left bound count marks₀ next₀ words₀ i₀ marks next words i =
-    (joinedOf true words (armsStep (armsOf s (term s left) (unmarked (take i marks)) bound (count - i) next))
-    ≡ armsStep (armsOf s (term s left) [] bound count at))
+arms-at-Inv-loop v s at left bound count marks₀ next₀ words₀ i₀ marks next words i =
+    (joinedOf true words (armsStep (armsOf (inVersion v) s (term (inVersion v) s left) (unmarked (take i marks)) bound (count - i) next))
+    ≡ armsStep (armsOf (inVersion v) s (term (inVersion v) s left) [] bound count at))
     × (i ≤ count) × (words ≤ 2 * small * i) × (count ≤ aWord) × (length marks ≡ mostArms)
 
 abbrev arms-at-μ-loop : arms-at-lts.MeasureT-loop
-arms-at-μ-loop s at left bound count marks₀ next₀ words₀ i₀ marks next words i = count - i
+arms-at-μ-loop v s at left bound count marks₀ next₀ words₀ i₀ marks next words i = count - i
 
 abbrev terms-at-Inv-loop : terms-at-lts.InvT-loop
-terms-at-Inv-loop s at left bound count next₀ all₀ words₀ i₀ next all words i =
-    (joinedOf all words (termsStep (many (term s left bound) (count - i) next)) ≡ termsStep (many (term s left bound) count at))
+terms-at-Inv-loop v s at left bound count next₀ all₀ words₀ i₀ next all words i =
+    (joinedOf all words (termsStep (many (term (inVersion v) s left bound) (count - i) next)) ≡ termsStep (many (term (inVersion v) s left bound) count at))
     × (i ≤ count) × (words ≤ 2 * small * i) × (count ≤ aWord)
 
 abbrev terms-at-μ-loop : terms-at-lts.MeasureT-loop
-terms-at-μ-loop s at left bound count next₀ all₀ words₀ i₀ next all words i = count - i
+terms-at-μ-loop v s at left bound count next₀ all₀ words₀ i₀ next all words i = count - i
 
 abbrev arms-at-calls : ℕ → arms-at-lts.Claims
 arms-at-calls t = (arity-at-reads.Asked, arity-at-reads.Learnt, mark-reads.Asked, mark-reads.Learnt, term-at-below t, term-at.Post)
 
 abbrev opened-at-calls : ℕ → opened-at-lts.Claims
 opened-at-calls t = (
+  variable-at-reads.Asked,
+  variable-at-reads.Learnt,
   term-at-below t,
   term-at.Post,
-  grown-reads.Asked,
-  grown-reads.Learnt,
   terms-at-below t,
   terms-at.Post,
+  grown-reads.Asked,
+  grown-reads.Learnt,
   second-at-reads.Asked,
   second-at-reads.Learnt,
   built-reads.Asked,
   built-reads.Learnt,
   arms-at-below t,
   arms-at.Post,
+  number-at-reads.Asked,
+  number-at-reads.Learnt,
 )
 
 abbrev term-at-calls : ℕ → term-at-lts.Claims
@@ -132,15 +139,18 @@ pub +arms-at+opened-at+term-at+terms-at-spec : {M : Type 1} → statement M
     (λ c. search arms-ways) (λ c. search arms-ways) (λ c. search arms-ways) (λ c. search arms-ways)
     (λ c. (search arms-ways, omega arith, search arms-ways, search arms-ways, search arms-ways)) (λ c. search arms-ways))
     (λ t. opened-at-lts.spec (opened-at-calls t) (opened-at-at t) opened-at.Post
+    (λ c. search ways) (λ c. search ways) (λ c. search ways) (λ c κs. search ways) (λ c. search ways)
+    (λ c. search ways) (λ c. search ways) (λ c κs. search ways) (λ c. search ways) (λ c. search ways)
+    (λ c. search ways) (λ c. search ways) (λ c κs. search ways) (λ c. search ways) (λ c. search ways)
+    (λ c κs. search ways) (λ c κs. search ways) (λ c. search ways) (λ c κs. search ways) (λ c. search ways)
+    (λ c. search ways) (λ c. search ways) (λ c κs. search ways) (λ c κs. search ways) (λ c. search ways)
+    (λ c κs. search ways) (λ c. search ways) (λ c. search ways) (λ c. search ways) (λ c κs. search ways)
+    (λ c. search ways) (λ c κs. search ways) (λ c. search ways) (λ c κs. search ways) (λ c. search ways)
+    (λ c. search ways) (λ c κs. (omega arith, (omega arith, omega arith, search ways))) (λ c κs. search ways)
+    (λ c. search ways) (λ c. search ways) (λ c κs. search ways) (λ c. search ways) (λ c κs. search ways)
+    (λ c κs. search ways) (λ c. search ways) (λ c. search ways) (λ c. search ways) (λ c. search ways)
     (λ c. search ways) (λ c. search ways) (λ c. search ways) (λ c. search ways) (λ c. search ways) (λ c. search ways)
-    (λ c κs. search ways) (λ c κs. search ways) (λ c. search ways) (λ c κs. search ways) (λ c. search ways) (λ c. search ways)
-    (λ c κs. search ways) (λ c κs. search ways) (λ c. search ways) (λ c κs. search ways) (λ c. search ways) (λ c. search ways)
-    (λ c. search ways) (λ c κs. search ways) (λ c κs. search ways) (λ c. search ways) (λ c κs. search ways) (λ c. search ways)
-    (λ c. search ways) (λ c. search ways) (λ c κs. search ways) (λ c. search ways) (λ c κs. search ways) (λ c. search ways)
-    (λ c κs. search ways) (λ c. search ways) (λ c. search ways)
-    (λ c κs. (omega arith, (omega arith, omega arith, search ways))) (λ c κs. search ways) (λ c. search ways)
-    (λ c. search ways) (λ c. search ways) (λ c. search ways) (λ c. search ways) (λ c. search ways) (λ c. search ways)
-    (λ c. search ways) (λ c. search ways) (λ c. search ways) (λ c. search ways) (λ c. search ways) (λ c. search ways))
+    (λ c. search ways) (λ c. search ways) (λ c. search ways) (λ c. search ways))
     (λ t. term-at-lts.spec (term-at-calls t) (term-at-at t) term-at.Post
     (λ c. search ways) (λ c. search ways) (λ c. search ways) (λ c. search ways) (λ c κs. search ways) (λ c. search ways)
     (λ c. search ways) (λ c. search ways) (λ c. search ways)

@@ -13,13 +13,13 @@ enum-known-r c = search ways
 enum-known-r-2 : tie.Need-enum-known-r-2
 enum-known-r-2 c = search ways
 
+add-t9 : tie.Need-add-t9
+unfolding wordsOf
+add-t9 c = omega (arith, ap wordsOf (c .before .r2 .given .1))
+
 add-t10 : tie.Need-add-t10
 unfolding wordsOf
 add-t10 c = omega (arith, ap wordsOf (c .before .r2 .given .1))
-
-add-t11 : tie.Need-add-t11
-unfolding wordsOf
-add-t11 c = omega (arith, ap wordsOf (c .before .r2 .given .1))
 
 returns : tie.Need-returns
 returns c = search ways
@@ -28,4 +28,4 @@ returns-2 : tie.Need-returns-2
 returns-2 c = search ways
 
 pub grown-spec : {M : Type 1} → statement M
-grown-spec = tie.close (tie.spec enum-known-r enum-known-r-2 add-t10 add-t11 returns returns-2)
+grown-spec = tie.close (tie.spec enum-known-r enum-known-r-2 add-t9 add-t10 returns returns-2)

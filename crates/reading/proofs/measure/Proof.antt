@@ -13,8 +13,8 @@ enum-known-e c = search answers
 enum-known-z : tie.Need-enum-known-z
 enum-known-z c = search answers
 
-add-t7 : tie.Need-add-t7
-add-t7 c = search answers
+add-t8 : tie.Need-add-t8
+add-t8 c = search answers
 
 returns : tie.Need-returns
 returns c = search answers
@@ -23,4 +23,4 @@ returns-2 : tie.Need-returns-2
 returns-2 c = search answers
 
 pub measure-spec : {M : Type 1} → statement M
-measure-spec = tie.close (tie.spec rule-of-requires enum-known-e enum-known-z add-t7 returns returns-2)
+measure-spec = tie.close (tie.spec rule-of-requires enum-known-e enum-known-z add-t8 returns returns-2)

@@ -1,0 +1,17 @@
+-- `reading::variable_at` meets its contract: both ways out are laws of `Ways`.
+-- Assumes nothing.
+use Rattle.reading.proofs.Ways.{ways}
+use Rattle.reading.proofs.variable_at.Statement.{statement}
+use Rattle.reading.proofs.variable_at.Tie as tie
+
+add-t6 : tie.Need-add-t6
+add-t6 c = search ways
+
+returns : tie.Need-returns
+returns c = search ways
+
+returns-2 : tie.Need-returns-2
+returns-2 c = search ways
+
+pub variable-at-spec : {M : Type 1} → statement M
+variable-at-spec = tie.close (tie.spec add-t6 returns returns-2)
