@@ -104,10 +104,11 @@ fn number_at(s: &[u16], at: usize) -> Step
     requires { ⌜ at ≤ aWord ⌝ }
     ensures { λ r. ⌜ r ≡ termStep (made num (number (now (s .entry)) at)) ⌝ }
 {
-    if s.len() <= at + 1 {
-        return Step::No(language::NONE_LEFT, s.len());
+    if at + 1 < s.len() {
+        Step::Next(at + 2, true, NUMBER_WORDS)
+    } else {
+        Step::No(language::NONE_LEFT, s.len())
     }
-    Step::Next(at + 2, true, NUMBER_WORDS)
 }
 
 // A term in version v, with so many levels of depth left, under so many source variables.
@@ -132,7 +133,8 @@ fn term_at(v: u8, s: &[u16], at: usize, left: usize, bound: usize) -> Step
 fn opened_at(v: u8, s: &[u16], at: usize, left: usize, bound: usize, low: usize, row: Row) -> Step
     requires { ⌜ (length (now s) ≤ aWord) × (bound + aWord * (left + 1) ≤ small) × (at < length (now s)) × (low ≤ mostByte) × (row .binds ≤ 1)
         × FewArms (row .parts) low ⌝ }
-    ensures { λ r. ⌜ r ≡ termStep (opened (inVersion v) (now (s .entry)) (term (inVersion v) (now (s .entry)) left) bound at low (row .binds) (row .parts)) ⌝ }
+    ensures { λ r. ⌜ r ≡ termStep (opened (inVersion v) (now (s .entry)) (term (inVersion v) (now (s .entry)) left) bound at low (row .binds)
+        (row .parts)) ⌝ }
 {
     let next = at + 1;
     let binds = row.binds as usize;

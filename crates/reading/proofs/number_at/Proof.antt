@@ -7,14 +7,14 @@ use Rattle.reading.proofs.number_at.Tie as tie
 add-if1 : tie.Need-add-if1
 add-if1 c = search ways
 
+add-t7 : tie.Need-add-t7
+add-t7 c = search ways
+
 returns : tie.Need-returns
 returns c = search ways
-
-add-t3 : tie.Need-add-t3
-add-t3 c = search ways
 
 returns-2 : tie.Need-returns-2
 returns-2 c = search ways
 
 pub number-at-spec : {M : Type 1} → statement M
-number-at-spec = tie.close (tie.spec add-if1 returns add-t3 returns-2)
+number-at-spec = tie.close (tie.spec add-if1 add-t7 returns returns-2)
