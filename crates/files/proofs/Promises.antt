@@ -10,10 +10,11 @@ use lib.Dec.{ltb, eqb}
 use lib.ListN.{length, getD, drop}
 use lib.Seq.{getD-append-add}
 use borrow.Author.Tests.{le-ltb, eq-eqb, ne-eqb, eqb-true, eqb-false, ltb-false}
+use Rattle.language.specs.Kinds.{known}
 use Rattle.language.specs.Read.{noPlace}
-use Rattle.language.specs.Calls.{Outcome, success, refuses, filled}
+use Rattle.language.specs.Calls.{Reply, Outcome, success, refusal, refuses, filled}
 use Rattle.language.proofs.Clash.{never}
-use Rattle.files.specs.Files.{markL, markR, third, most, version, headerBytes, header, bytesOf, packed, wordAt, wordsAt, marked, packing, unpacking}
+use Rattle.files.specs.Files.{markL, markR, third, most, headerBytes, header, bytesOf, packed, wordAt, wordsAt, versionIn, countIn, marked, packing, taking, versed, unpacking}
 use Rattle.files.specs.Promises.{Bytes, PackedUnpacks, AcceptedArePacked}
 use Rattle.files.specs.declared.Form.{Form}
 use Rattle.files.proofs.Calls.{packed-length, wordsAt-length}
@@ -85,75 +86,93 @@ bytes-of-words (a ∷ b ∷ bs) (suc n) h e =
     ap₂ _∷_ l (ap₂ _∷_ u (ap bytesOf (words-behind (a ∷ b ∷ []) bs 0 n) ∙ bytes-of-words bs n (rest-bytes (rest-bytes h)) (omega arith)))
 
 -- what packing that succeeded went through
-record Packs (f : Form) (ws out : List ℕ) : Type 0 where
+record Packs (f : Form) (v : ℕ) (ws out : List ℕ) : Type 0 where
+  versed : known v ≡ true
   some : length ws ≡ 0 → ⊥
   few : length ws ≤ most f
-  is : packing f ws out ≡ filled (packed f ws) out
+  is : packing f v ws out ≡ filled (packed f v ws) out
 
-packs : (f : Form) (ws out : List ℕ) (n : ℕ) → packing f ws out .reply ≡ success n → Packs f ws out
+packs : (f : Form) (v : ℕ) (ws out : List ℕ) (n : ℕ) → packing f v ws out .reply ≡ success n → Packs f v ws out
 unfolding packing
-packs f ws out n h =
-    let a = failed (eqb (length ws) 0) _ 1 out h in
-    let b = failed (ltb (most f) (length ws)) _ 2 out (ap (λ o. o .reply) (sym (a .1)) ∙ h) in
+packs f v ws out n h =
+    let a = held (known v) _ 11 out h in
+    let h₁ = ap (λ o. o .reply) (sym (a .1)) ∙ h in
+    let b = failed (eqb (length ws) 0) _ 1 out h₁ in
+    let c = failed (ltb (most f) (length ws)) _ 2 out (ap (λ o. o .reply) (sym (b .1)) ∙ h₁) in
     record {
-      some = eqb-false (length ws) 0 (a .0);
-      few = ltb-false (most f) (length ws) (b .0);
-      is = a .1 ∙ b .1;
+      versed = a .0;
+      some = eqb-false (length ws) 0 (b .0);
+      few = ltb-false (most f) (length ws) (c .0);
+      is = a .1 ∙ b .1 ∙ c .1;
     }
 
--- what unpacking that succeeded went through
-record Unpacks (f : Form) (bs out : List ℕ) : Type 0 where
+-- what taking that succeeded went through
+record Takes (f : Form) (bs out : List ℕ) : Type 0 where
   mark : marked f bs ≡ true
-  first : wordAt bs 3 ≡ version
-  long : length bs ≡ headerBytes + 2 * wordAt bs 5
-  is : unpacking f bs out ≡ filled (wordsAt bs headerBytes (wordAt bs 5)) out
+  versed : known (versionIn bs) ≡ true
+  long : length bs ≡ headerBytes + 2 * countIn bs
+  is : taking f bs out ≡ filled (wordsAt bs headerBytes (countIn bs)) out
 
-unpacks : (f : Form) (bs out : List ℕ) (n : ℕ) → unpacking f bs out .reply ≡ success n → Unpacks f bs out
-unfolding unpacking
-unpacks f bs out n h =
+takes : (f : Form) (bs out : List ℕ) (n : ℕ) → taking f bs out .reply ≡ success n → Takes f bs out
+unfolding taking
+takes f bs out n h =
     let a = held (marked f bs) _ 10 out h in
     let h₁ = ap (λ o. o .reply) (sym (a .1)) ∙ h in
-    let b = held (eqb (wordAt bs 3) version) _ 11 out h₁ in
+    let b = held (known (versionIn bs)) _ 11 out h₁ in
     let h₂ = ap (λ o. o .reply) (sym (b .1)) ∙ h₁ in
-    let c = held (eqb (length bs) (headerBytes + 2 * wordAt bs 5)) _ 12 out h₂ in
+    let c = held (eqb (length bs) (headerBytes + 2 * countIn bs)) _ 12 out h₂ in
     let h₃ = ap (λ o. o .reply) (sym (c .1)) ∙ h₂ in
-    let d = failed (eqb (wordAt bs 5) 0) _ 1 out h₃ in
+    let d = failed (eqb (countIn bs) 0) _ 1 out h₃ in
     let h₄ = ap (λ o. o .reply) (sym (d .1)) ∙ h₃ in
-    let e = failed (ltb (most f) (wordAt bs 5)) _ 2 out h₄ in
+    let e = failed (ltb (most f) (countIn bs)) _ 2 out h₄ in
     record {
       mark = a .0;
-      first = eqb-true (wordAt bs 3) version (b .0);
-      long = eqb-true (length bs) (headerBytes + 2 * wordAt bs 5) (c .0);
+      versed = b .0;
+      long = eqb-true (length bs) (headerBytes + 2 * countIn bs) (c .0);
       is = a .1 ∙ b .1 ∙ c .1 ∙ d .1 ∙ e .1;
     }
 
+-- a version is reported exactly where words were taken
+versed-success : {w v n : ℕ} (r : Reply ℕ) → versed w r ≡ success (v, n) → (r ≡ success n) × (w ≡ v)
+unfolding versed
+versed-success {w} {v} {n} (success m) h = let e : _≡_ {A = ℕ × ℕ} (w, m) (v, n) = cc in (ap (λ x. success (x .1)) e, ap (λ x. x .0) e)
+versed-success (refusal e p) h = never cc
+
 -- a packed file passes every test
-packed-marked : (f : Form) (ws : List ℕ) → marked f (packed f ws) ≡ true
-unfolding packed
-packed-marked f ws = simp (le-ltb (length (packed f ws)) headerBytes (omega arith), eq-eqb (third f) (third f) refl)
+module _ (f : Form) (v : ℕ) (ws : List ℕ) where
+  packed-marked : marked f (packed f v ws) ≡ true
+  unfolding packed
+  packed-marked = simp (le-ltb (length (packed f v ws)) headerBytes (omega arith), eq-eqb (third f) (third f) refl)
 
-packed-version : (f : Form) (ws : List ℕ) → wordAt (packed f ws) 3 ≡ version
-unfolding packed
-packed-version f ws = refl
+  packed-version : versionIn (packed f v ws) ≡ v
+  unfolding packed
+  packed-version = omega arith
 
-packed-count : (f : Form) (ws : List ℕ) → wordAt (packed f ws) 5 ≡ length ws
-unfolding packed
-packed-count f ws = omega arith
+  packed-count : countIn (packed f v ws) ≡ length ws
+  unfolding packed
+  packed-count = omega arith
 
-packed-words : (f : Form) (ws : List ℕ) → wordsAt (packed f ws) headerBytes (length ws) ≡ ws
-unfolding packed
-packed-words f ws = words-behind (header f (length ws)) (bytesOf ws) 0 (length ws) ∙ words-of-bytes ws
+  packed-words : wordsAt (packed f v ws) headerBytes (length ws) ≡ ws
+  unfolding packed
+  packed-words = words-behind (header f v (length ws)) (bytesOf ws) 0 (length ws) ∙ words-of-bytes ws
 
-unpacking-packed : (f : Form) (ws buf : List ℕ) → (length ws ≡ 0 → ⊥) → length ws ≤ most f → unpacking f (packed f ws) buf ≡ filled ws buf
-unfolding unpacking
-unpacking-packed f ws buf n l =
-    simp (packed-marked f ws, packed-version f ws, packed-count f ws, eq-eqb _ _ (packed-length f ws), ne-eqb _ _ n, le-ltb _ _ l, packed-words f ws)
+  taking-packed : (buf : List ℕ) → known v ≡ true → (length ws ≡ 0 → ⊥) → length ws ≤ most f → taking f (packed f v ws) buf ≡ filled ws buf
+  unfolding taking
+  taking-packed buf k n l =
+      simp (packed-marked, packed-version, k, packed-count, eq-eqb _ _ (packed-length f v ws), ne-eqb _ _ n, le-ltb _ _ l, packed-words)
+
+  unpacking-packed : (buf : List ℕ) → taking f (packed f v ws) buf ≡ record { reply = success (length ws); output = ws ++ drop (length ws) buf }
+      → unpacking f (packed f v ws) buf ≡ record { reply = success (v, length ws); output = ws ++ drop (length ws) buf }
+  unfolding unpacking versed
+  unpacking-packed buf h = rw (h, packed-version)
 
 pub packed-unpacks : PackedUnpacks
-packed-unpacks f ws out buf n h l =
-    let p = packs f ws out n h in
-    let q = fills (packed f ws) out n (ap (λ o. o .reply) (sym (p .is)) ∙ h) in
-    (ap (λ o. o .output) (p .is) ∙ q .output, unpacking-packed f ws buf (p .some) (p .few) ∙ filled-is ws buf l)
+packed-unpacks f v ws out buf n h l =
+    let p = packs f v ws out n h in
+    let q = fills (packed f v ws) out n (ap (λ o. o .reply) (sym (p .is)) ∙ h) in (
+      ap (λ o. o .output) (p .is) ∙ q .output,
+      unpacking-packed f v ws buf (taking-packed f v ws buf (p .versed) (p .some) (p .few) ∙ filled-is ws buf l),
+    )
 
 -- the three letters of a mark that was found
 letters : (f : Form) (bs : List ℕ) → marked f bs ≡ true → (getD bs 0 0 ≡ markL) × (getD bs 1 0 ≡ markR) × (getD bs 2 0 ≡ third f)
@@ -166,17 +185,17 @@ letters f bs m =
     (eqb-true (getD bs 0 0) markL (a .0), eqb-true (getD bs 1 0) markR (b .0), eqb-true (getD bs 2 0) (third f) (b .1))
 
 -- a file that passed every test is the packing of its words: its header is the form's, and its other bytes are its words'
-is-packed : (f : Form) (bs : List ℕ) (n : ℕ) → Bytes bs → marked f bs ≡ true → wordAt bs 3 ≡ version → wordAt bs 5 ≡ n → length bs ≡ headerBytes + 2 * n
-    → bs ≡ packed f (wordsAt bs headerBytes n)
+is-packed : (f : Form) (bs : List ℕ) (u n : ℕ) → Bytes bs → marked f bs ≡ true → versionIn bs ≡ u → countIn bs ≡ n → length bs ≡ headerBytes + 2 * n
+    → bs ≡ packed f u (wordsAt bs headerBytes n)
 unfolding packed
-is-packed f [] n h m v c l = absurd (omega arith)
-is-packed f (a ∷ []) n h m v c l = absurd (omega arith)
-is-packed f (a ∷ b ∷ []) n h m v c l = absurd (omega arith)
-is-packed f (a ∷ b ∷ d ∷ []) n h m v c l = absurd (omega arith)
-is-packed f (a ∷ b ∷ d ∷ v₀ ∷ []) n h m v c l = absurd (omega arith)
-is-packed f (a ∷ b ∷ d ∷ v₀ ∷ v₁ ∷ []) n h m v c l = absurd (omega arith)
-is-packed f (a ∷ b ∷ d ∷ v₀ ∷ v₁ ∷ c₀ ∷ []) n h m v c l = absurd (omega arith)
-is-packed f (a ∷ b ∷ d ∷ v₀ ∷ v₁ ∷ c₀ ∷ c₁ ∷ bs) n h m v c l =
+is-packed f [] u n h m v c l = absurd (omega arith)
+is-packed f (a ∷ []) u n h m v c l = absurd (omega arith)
+is-packed f (a ∷ b ∷ []) u n h m v c l = absurd (omega arith)
+is-packed f (a ∷ b ∷ d ∷ []) u n h m v c l = absurd (omega arith)
+is-packed f (a ∷ b ∷ d ∷ v₀ ∷ []) u n h m v c l = absurd (omega arith)
+is-packed f (a ∷ b ∷ d ∷ v₀ ∷ v₁ ∷ []) u n h m v c l = absurd (omega arith)
+is-packed f (a ∷ b ∷ d ∷ v₀ ∷ v₁ ∷ c₀ ∷ []) u n h m v c l = absurd (omega arith)
+is-packed f (a ∷ b ∷ d ∷ v₀ ∷ v₁ ∷ c₀ ∷ c₁ ∷ bs) u n h m v c l =
     let all : List ℕ = a ∷ b ∷ d ∷ v₀ ∷ v₁ ∷ c₀ ∷ c₁ ∷ bs in
     let t = letters f all m in
     let w : length (wordsAt all headerBytes n) ≡ n = wordsAt-length all headerBytes n in
@@ -188,8 +207,17 @@ is-packed f (a ∷ b ∷ d ∷ v₀ ∷ v₁ ∷ c₀ ∷ c₁ ∷ bs) n h m v c
     (sym rest)))))))
 
 pub accepted-are-packed : AcceptedArePacked
-accepted-are-packed f bs out n y h =
-    let p = unpacks f bs out n h in
-    let k : ℕ = wordAt bs 5 in
-    let q = fills (wordsAt bs headerBytes k) out n (ap (λ o. o .reply) (sym (p .is)) ∙ h) in
-    (wordsAt bs headerBytes k, sym (q .counted), is-packed f bs k y (p .mark) (p .first) refl (p .long), ap (λ o. o .output) (p .is) ∙ q .output)
+unfolding unpacking
+accepted-are-packed f bs out v n y h =
+    let r = versed-success (taking f bs out .reply) h in
+    let p = takes f bs out n (r .0) in
+    let k : ℕ = countIn bs in
+    let q = fills (wordsAt bs headerBytes k) out n (ap (λ o. o .reply) (sym (p .is)) ∙ r .0) in (
+      rw (← r .1) (p .versed),
+      (
+        wordsAt bs headerBytes k,
+        sym (q .counted),
+        is-packed f bs v k y (p .mark) (r .1) refl (p .long),
+        ap (λ o. o .output) (p .is) ∙ q .output,
+      ),
+    )

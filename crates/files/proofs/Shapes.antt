@@ -8,9 +8,10 @@ use mathlib.Core.List.{List, _++_}
 use lib.Dec.{ltb, eqb}
 use lib.ListN.{length, drop}
 use borrow.Author.Tests.{ltb-false}
+use Rattle.language.specs.Kinds.{known}
 use Rattle.language.specs.Read.{noPlace, Reading, accepted, refused}
 use Rattle.language.specs.Calls.{Outcome, success, refuses, filled, written}
-use Rattle.files.specs.Files.{most, version, headerBytes, wordAt, marked, packing, unpacking}
+use Rattle.files.specs.Files.{most, headerBytes, versionIn, countIn, marked, packing, taking}
 use Rattle.files.specs.declared.Form.{Form}
 
 pub data Shaped (out : List ℕ) : Outcome ℕ → Type 0 where
@@ -35,18 +36,20 @@ unfolding written
 written-shaped (accepted t) out = filled-shaped _ out
 written-shaped (refused e p) out = stays e p
 
-pub packing-shaped : (f : Form) (ws out : List ℕ) → Shaped out (packing f ws out)
+pub packing-shaped : (f : Form) (v : ℕ) (ws out : List ℕ) → Shaped out (packing f v ws out)
 unfolding packing
-packing-shaped f ws out =
-    tested (eqb (length ws) 0) (stays 1 noPlace) (tested (ltb (most f) (length ws)) (stays 2 noPlace) (filled-shaped _ out))
+packing-shaped f v ws out =
+    tested (known v)
+    (tested (eqb (length ws) 0) (stays 1 noPlace) (tested (ltb (most f) (length ws)) (stays 2 noPlace) (filled-shaped _ out)))
+    (stays 11 noPlace)
 
-pub unpacking-shaped : (f : Form) (bs out : List ℕ) → Shaped out (unpacking f bs out)
-unfolding unpacking
-unpacking-shaped f bs out =
+pub taking-shaped : (f : Form) (bs out : List ℕ) → Shaped out (taking f bs out)
+unfolding taking
+taking-shaped f bs out =
     tested (marked f bs)
-    (tested (eqb (wordAt bs 3) version)
-    (tested (eqb (length bs) (headerBytes + 2 * wordAt bs 5))
-    (tested (eqb (wordAt bs 5) 0) (stays 1 noPlace) (tested (ltb (most f) (wordAt bs 5)) (stays 2 noPlace) (filled-shaped _ out)))
+    (tested (known (versionIn bs))
+    (tested (eqb (length bs) (headerBytes + 2 * countIn bs))
+    (tested (eqb (countIn bs) 0) (stays 1 noPlace) (tested (ltb (most f) (countIn bs)) (stays 2 noPlace) (filled-shaped _ out)))
     (stays 12 noPlace))
     (stays 11 noPlace))
     (stays 10 noPlace)

@@ -20,9 +20,9 @@ unfolding bytesOf
 stored-word l at w = rw add-one
 
 -- the seven bytes of a header
-pub stored-header : (f : Form) (l : List ℕ) (n : ℕ) {t : ℕ} → t ≡ third f
-    → set (set (set (set (set (set (set l 0 markL) 1 markR) 2 t) 3 1) 4 0) 5 (n % 256)) 6 (n / 256) ≡ sets l 0 (header f n)
-stored-header f l n e = rw e
+pub stored-header : (f : Form) (l : List ℕ) (v n : ℕ) {t : ℕ} → t ≡ third f
+    → set (set (set (set (set (set (set l 0 markL) 1 markR) 2 t) 3 (v % 256)) 4 (v / 256)) 5 (n % 256)) 6 (n / 256) ≡ sets l 0 (header f v n)
+stored-header f l v n e = rw e
 
 -- the tests of a mark
 module _ (f : Form) (bs : List ℕ) where

@@ -7,12 +7,18 @@ ghost use lib.ListN.{length};
 ghost use lib.Seq.{sets};
 ghost use Rattle.language.specs.Limits.{mostImageWords};
 ghost use Rattle.language.specs.Calls.{told};
-ghost use Rattle.files.specs.Files.{third, most, header, bytesOf, marked, wordAt, wordsAt, headerBytes, packing, unpacking};
+ghost use Rattle.files.specs.Files.{third, most, header, bytesOf, marked, wordAt, wordsAt, headerBytes, packing, taking, unpacking, toldUnpacked};
 
 // What a file holds.
 pub enum Form {
     Rules,
     Images,
+}
+
+// What unpacking gives: the version that the file carries, and how many words; or a refusal's number and its place.
+pub enum Unpacked {
+    Words(u16, usize),
+    Refusal(u8, usize),
 }
 
 const MARK_L: u8 = 0x4C;
@@ -22,8 +28,6 @@ const MARK_R: u8 = 0x52;
 const MARK_RULES: u8 = 0x53;
 
 const MARK_IMAGES: u8 = 0x49;
-
-const VERSION: u16 = 1;
 
 // The bytes before the words, and where the version and the count stand in them.
 const HEADER: usize = 7;
@@ -61,15 +65,15 @@ fn put_word(out: &mut [u8], at: usize, w: u16)
     out[at + 1] = (w / 256) as u8;
 }
 
-fn put_header(out: &mut [u8], form: Form, count: u16)
+fn put_header(out: &mut [u8], form: Form, version: u16, count: u16)
     requires { ⌜ headerBytes ≤ length (now out) ⌝ }
-    ensures { λ r. ⌜ now (out .exit) ≡ sets (now (out .entry)) 0 (header form count) ⌝ }
+    ensures { λ r. ⌜ now (out .exit) ≡ sets (now (out .entry)) 0 (header form version count) ⌝ }
 {
     out[0] = MARK_L;
     out[1] = MARK_R;
     out[2] = third_letter(form);
-    out[VERSION_AT] = (VERSION % 256) as u8;
-    out[VERSION_AT + 1] = (VERSION / 256) as u8;
+    out[VERSION_AT] = (version % 256) as u8;
+    out[VERSION_AT + 1] = (version / 256) as u8;
     out[COUNT_AT] = (count % 256) as u8;
     out[COUNT_AT + 1] = (count / 256) as u8;
 }
@@ -85,10 +89,13 @@ fn put_words(out: &mut [u8], words: &[u16])
     }
 }
 
-// Writes the file of the words at the front of the output.
-pub fn pack(out: &mut [u8], form: Form, words: &[u16]) -> Answer
-    ensures { λ r. ⌜ told r (now (out .exit)) ≡ packing form (now (words .entry)) (now (out .entry)) ⌝ }
+// Writes the file of the words, which carries the version told, at the front of the output.
+pub fn pack(out: &mut [u8], form: Form, version: u16, words: &[u16]) -> Answer
+    ensures { λ r. ⌜ told r (now (out .exit)) ≡ packing form version (now (words .entry)) (now (out .entry)) ⌝ }
 {
+    if !language::is_known(version) {
+        return Answer::Refusal(language::WRONG_VERSION, language::NO_PLACE);
+    }
     let count = words.len();
     if count == 0 {
         return Answer::Refusal(language::NO_WORDS, language::NO_PLACE);
@@ -100,7 +107,7 @@ pub fn pack(out: &mut [u8], form: Form, words: &[u16]) -> Answer
     if out.len() < size {
         return Answer::Refusal(language::NO_ROOM, language::NO_PLACE);
     }
-    put_header(out, form, count as u16);
+    put_header(out, form, version, count as u16);
     put_words(out, words);
     Answer::Count(size)
 }
@@ -149,13 +156,13 @@ pub fn take_words(out: &mut [u16], bytes: &[u8], at: usize, count: usize)
 }
 
 // Writes the words of the file at the front of the output. Reads no terms.
-pub fn unpack(out: &mut [u16], form: Form, bytes: &[u8]) -> Answer
-    ensures { λ r. ⌜ told r (now (out .exit)) ≡ unpacking form (now (bytes .entry)) (now (out .entry)) ⌝ }
+fn take_file(out: &mut [u16], form: Form, bytes: &[u8]) -> Answer
+    ensures { λ r. ⌜ told r (now (out .exit)) ≡ taking form (now (bytes .entry)) (now (out .entry)) ⌝ }
 {
     if !has_mark(bytes, form) {
         return Answer::Refusal(language::WRONG_MARK, language::NO_PLACE);
     }
-    if word_at(bytes, VERSION_AT) != VERSION {
+    if !language::is_known(word_at(bytes, VERSION_AT)) {
         return Answer::Refusal(language::WRONG_VERSION, language::NO_PLACE);
     }
     let count = word_at(bytes, COUNT_AT) as usize;
@@ -173,4 +180,14 @@ pub fn unpack(out: &mut [u16], form: Form, bytes: &[u8]) -> Answer
     }
     take_words(out, bytes, HEADER, count);
     Answer::Count(count)
+}
+
+// Writes the words of the file at the front of the output, and gives the version that it carries and how many words. Reads no terms.
+pub fn unpack(out: &mut [u16], form: Form, bytes: &[u8]) -> Unpacked
+    ensures { λ r. ⌜ toldUnpacked r (now (out .exit)) ≡ unpacking form (now (bytes .entry)) (now (out .entry)) ⌝ }
+{
+    match take_file(out, form, bytes) {
+        Answer::Refusal(e, p) => Unpacked::Refusal(e, p),
+        Answer::Count(n) => Unpacked::Words(word_at(bytes, VERSION_AT), n),
+    }
 }
