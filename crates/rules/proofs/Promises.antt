@@ -11,6 +11,7 @@ use lib.ListN.{length, take, drop}
 use lib.Seq.{take-at}
 use borrow.Author.Tests.{ltb-true, ltb-false}
 use Rattle.language.specs.Term.{rules, images, Term}
+use Rattle.language.specs.Setting.{Setting}
 use Rattle.language.specs.Words.{words}
 use Rattle.language.specs.Image.{image}
 use Rattle.language.specs.Read.{noPlace, Reading, accepted, refused, read}
@@ -18,46 +19,42 @@ use Rattle.language.specs.Calls.{Reply, Outcome, success, refusal, replyOf, tol
 use Rattle.language.specs.declared.Answer.{Answer}
 use Rattle.language.specs.declared.Answer.the-variants.{Count, Refusal}
 use Rattle.language.proofs.Clash.{never}
-use Rattle.trust.proofs.Accepted.{accepted-are-rules, accepted-rule}
-use Rattle.trust.proofs.Ranges.{images-in-range}
+use Rattle.trust.proofs.Accepted.{accepted-are-rules}
+use Rattle.trust.proofs.Ranges.{words-fit, images-in-range}
 use Rattle.trust.proofs.Unique.{words-determine}
 use Rattle.meaning.proofs.Promises.{both-ways}
 use Rattle.reading.specs.Answers.{checkedReply}
 use Rattle.reading.specs.declared.Checked.{Checked}
 use Rattle.reading.specs.declared.Checked.the-variants.{Success, Refusal as unchecked}
-use Rattle.files.specs.Files.{packing, unpacking}
-use Rattle.files.proofs.Shapes.{Shaped, stays, fills, written-shaped, packing-shaped, unpacking-shaped}
+use Rattle.files.specs.Files.{packing, versionIn, versed, unpacking}
+use Rattle.files.specs.declared.Form.{Form}
+use Rattle.files.proofs.Shapes.{Shaped, stays, fills, written-shaped, packing-shaped, taking-shaped}
 use Rattle.reading.proofs.Answers.{same-checked, same-answer}
 use Rattle.rules.specs.Contracts.{check, measure, write, pack, unpack, Allows}
 use Rattle.rules.specs.Promises.{Determined, Unwritten, refusing, no-room, Demand1, Written, Demand2, WrittenRuns, NoneAccepts, NoDeadArms}
-
--- an answer with an output is determined by what they tell
-same-told : {o : Outcome ℕ} (x y : Answer × List ℕ) → told (x .0) (x .1) ≡ o → told (y .0) (y .1) ≡ o → x ≡ y
-same-told x y e f =
-    let t : told (x .0) (x .1) ≡ told (y .0) (y .1) = e ∙ sym f in
-    λ i. (same-answer (x .0) (y .0) (ap (λ q. q .reply) t) i, ap (λ q. q .output) t i)
+use Rattle.rules.proofs.Meanings.{same-told, outcome-answer, reply-refuses, kept, answers, checkings, unpackings}
 
 pub determined : Determined
-determined (check ws) x y e f = same-checked x y (e ∙ sym f)
-determined (measure ws) x y e f = same-answer x y (e ∙ sym f)
-determined (write ws out) x y e f = same-told x y e f
-determined (pack g ws out) x y e f = same-told x y e f
-determined (unpack g bs out) x y e f = same-told x y e f
+determined (check S ws) x y e f = same-checked x y (e ∙ sym f)
+determined (measure S ws) x y e f = same-answer x y (e ∙ sym f)
+determined (write S ws out) x y e f = same-told answers x y e f
+determined (pack g v ws out) x y e f = same-told answers x y e f
+determined (unpack g bs out) x y e f = same-told unpackings x y e f
 
 -- what comes of writing the words ws into the output out: the definition's cases
-data Replied (ws out : List ℕ) : Answer → List ℕ → Type 0 where
-  refuses-rule : {e p : ℕ} → read ws ≡ refused e p → Replied ws out (Refusal e p) out
-  lacks-room : {t : Term} → read ws ≡ accepted t → length out < length (words images (image t)) → Replied ws out (Refusal 9 noPlace) out
-  writing : {t : Term} {n : ℕ} {o : List ℕ} → read ws ≡ accepted t → n ≡ length (words images (image t)) → n ≤ length out
-      → o ≡ words images (image t) ++ drop n out → Replied ws out (Count n) o
+data Replied (S : Setting) (ws out : List ℕ) : Answer → List ℕ → Type 0 where
+  refuses-rule : {e p : ℕ} → read S ws ≡ refused e p → Replied S ws out (Refusal e p) out
+  lacks-room : {t : Term} → read S ws ≡ accepted t → length out < length (words images (image t)) → Replied S ws out (Refusal 9 noPlace) out
+  writing : {t : Term} {n : ℕ} {o : List ℕ} → read S ws ≡ accepted t → n ≡ length (words images (image t)) → n ≤ length out
+      → o ≡ words images (image t) ++ drop n out → Replied S ws out (Count n) o
 
-written-is : (ws out : List ℕ) (g : Reading) → read ws ≡ g → (a : Answer) × (o : List ℕ) × (told a o ≡ written g out) × Replied ws out a o
+written-is : (S : Setting) (ws out : List ℕ) (g : Reading) → read S ws ≡ g → (a : Answer) × (o : List ℕ) × (told a o ≡ written g out) × Replied S ws out a o
 unfolding written filled replyOf
-written-is ws out (refused e p) q = (Refusal e p, out, refl, refuses-rule q)
-written-is ws out (accepted t) q = go (ltb (length out) (length (words images (image t)))) refl
+written-is S ws out (refused e p) q = (Refusal e p, out, refl, refuses-rule q)
+written-is S ws out (accepted t) q = go (ltb (length out) (length (words images (image t)))) refl
   where
     go : (b : Bool) → ltb (length out) (length (words images (image t))) ≡ b
-        → (a : Answer) × (o : List ℕ) × (told a o ≡ written (accepted t) out) × Replied ws out a o
+        → (a : Answer) × (o : List ℕ) × (told a o ≡ written (accepted t) out) × Replied S ws out a o
     go true e = (Refusal 9 noPlace, out, rw e, lacks-room q (ltb-true _ _ e))
     go false e = (
       Count (length (words images (image t))),
@@ -66,10 +63,10 @@ written-is ws out (accepted t) q = go (ltb (length out) (length (words images (i
       writing q refl (ltb-false _ _ e) refl,
     )
 
-replied-is : (ws out o : List ℕ) (a : Answer) → Allows (write ws out) (a, o) → Replied ws out a o
-replied-is ws out o a h =
-    let w = written-is ws out (read ws) refl in
-    subst (λ (x : Answer × List ℕ). Replied ws out (x .0) (x .1)) (same-told (w .0, w .1) (a, o) (w .2) h) (w .3)
+replied-is : (S : Setting) (ws out o : List ℕ) (a : Answer) → Allows (write S ws out) (a, o) → Replied S ws out a o
+replied-is S ws out o a h =
+    let w = written-is S ws out (read S ws) refl in
+    subst (λ (x : Answer × List ℕ). Replied S ws out (x .0) (x .1)) (same-told answers (w .0, w .1) (a, o) (w .2) h) (w .3)
 
 -- a rule that was accepted as one term was accepted as no other, and was not refused
 same-term : {g : Reading} {t u : Term} → g ≡ accepted t → g ≡ accepted u → t ≡ u
@@ -78,44 +75,26 @@ same-term p q = cc
 not-refused : {C : Type 0} {g : Reading} {t : Term} {e p : ℕ} → g ≡ accepted t → g ≡ refused e p → C
 not-refused h k = never cc
 
--- every reply that the definitions give is an answer's
-checked-answer : (g : Reading) → (r : Checked) × (checkedReply r ≡ checked g)
-unfolding checkedReply checked
-checked-answer (accepted t) = (Success, refl)
-checked-answer (refused e p) = (unchecked e p, refl)
-
-reply-answer : (x : Reply ℕ) → (a : Answer) × (replyOf a ≡ x)
-unfolding replyOf
-reply-answer (success n) = (Count n, refl)
-reply-answer (refusal e p) = (Refusal e p, refl)
-
-outcome-answer : (x : Outcome ℕ) → (r : Answer × List ℕ) × (told (r .0) (r .1) ≡ x)
-outcome-answer x = let a = reply-answer (x .reply) in ((a .0, x .output), λ i. record { reply = a .1 i; output = x .output })
-
--- an answer is a refusal exactly when the reply that it means is one
+-- what is checked and what is measured refuses exactly where the reading is refused
 checked-refuses : (g : Reading) (r : Checked) (e p : ℕ) → checkedReply r ≡ checked g → (r ≡ unchecked e p) ↔ (g ≡ refused e p)
 unfolding checkedReply checked
 checked-refuses (accepted t) r e p h = (λ k. never cc, λ k. never cc)
 checked-refuses (refused d i) r e p h = (λ k. cc, λ k. same-checked r (unchecked e p) (h ∙ ap checked k))
-
-reply-refuses : (x : Reply ℕ) (a : Answer) (e p : ℕ) → replyOf a ≡ x → (a ≡ Refusal e p) ↔ (x ≡ refusal e p)
-unfolding replyOf
-reply-refuses x a e p h = (λ k. sym h ∙ ap replyOf k, λ k. same-answer a (Refusal e p) (h ∙ k))
 
 measured-refuses : (g : Reading) (a : Answer) (e p : ℕ) → replyOf a ≡ measured g → (a ≡ Refusal e p) ↔ (g ≡ refused e p)
 unfolding replyOf measured
 measured-refuses (accepted t) a e p h = (λ k. never cc, λ k. never cc)
 measured-refuses (refused d i) a e p h = (λ k. cc, λ k. same-answer a (Refusal e p) (h ∙ ap measured k))
 
-written-refuses : (ws out : List ℕ) (r : Answer × List ℕ) (e p : ℕ) → Allows (write ws out) r → (r .0 ≡ Refusal e p) ↔ Unwritten ws out e p
-written-refuses ws out r e p h = let w = replied-is ws out (r .1) (r .0) h in (λ k. to w k, λ f. from w f)
+written-refuses : (S : Setting) (ws out : List ℕ) (r : Answer × List ℕ) (e p : ℕ) → Allows (write S ws out) r → (r .0 ≡ Refusal e p) ↔ Unwritten S ws out e p
+written-refuses S ws out r e p h = let w = replied-is S ws out (r .1) (r .0) h in (λ k. to w k, λ f. from w f)
   where
-    to : {a : Answer} {o : List ℕ} → Replied ws out a o → a ≡ Refusal e p → Unwritten ws out e p
+    to : {a : Answer} {o : List ℕ} → Replied S ws out a o → a ≡ Refusal e p → Unwritten S ws out e p
     to (refuses-rule {e = d} {p = i} q) k = let x : d ≡ e = cc in let y : i ≡ p = cc in refusing (rw (x, y) at q)
-    to (lacks-room q l) k = let x : _≡_ {A = ℕ} 9 e = cc in let y : noPlace ≡ p = cc in subst₂ (Unwritten ws out) x y (no-room q l)
+    to (lacks-room q l) k = let x : _≡_ {A = ℕ} 9 e = cc in let y : noPlace ≡ p = cc in subst₂ (Unwritten S ws out) x y (no-room q l)
     to (writing q m l o) k = never cc
 
-    from : {a : Answer} {o : List ℕ} {d i : ℕ} → Replied ws out a o → Unwritten ws out d i → a ≡ Refusal d i
+    from : {a : Answer} {o : List ℕ} {d i : ℕ} → Replied S ws out a o → Unwritten S ws out d i → a ≡ Refusal d i
     from (refuses-rule q) (refusing f) = cc
     from (refuses-rule q) (no-room f l) = not-refused f q
     from (lacks-room q l) (refusing f) = not-refused q f
@@ -123,45 +102,51 @@ written-refuses ws out r e p h = let w = replied-is ws out (r .1) (r .0) h in (�
     from (writing q m l o) (refusing f) = not-refused q f
     from (writing {t = u} q m l o) (no-room {t} f n) = let z : u ≡ t = same-term q f in absurd (omega (arith, rw z at m))
 
--- an outcome that refuses has the output as it was
+-- an outcome that refuses has the output as it was; unpacking refuses where no words were taken
 keeps : {out : List ℕ} {x : Outcome ℕ} {e p : ℕ} → Shaped out x → x .reply ≡ refusal e p → x .output ≡ out
 keeps (stays d i) h = refl
 keeps (fills ws l) h = never cc
 
-kept : {out : List ℕ} {x : Outcome ℕ} (r : Answer × List ℕ) (e p : ℕ) → Shaped out x → told (r .0) (r .1) ≡ x → r .0 ≡ Refusal e p → r .1 ≡ out
-kept r e p s h q = ap (λ y. y .output) h ∙ keeps s (reply-refuses _ (r .0) e p (ap (λ y. y .reply) h) .0 q)
+versed-refusal : (v : ℕ) {e p : ℕ} (r : Reply ℕ) → versed v r ≡ refusal e p → r ≡ refusal e p
+unfolding versed
+versed-refusal v (success n) h = never cc
+versed-refusal v (refusal d i) h = cc
+
+unpacking-keeps : (f : Form) (bs out : List ℕ) {e p : ℕ} → unpacking f bs out .reply ≡ refusal e p → unpacking f bs out .output ≡ out
+unfolding unpacking
+unpacking-keeps f bs out h = keeps (taking-shaped f bs out) (versed-refusal (versionIn bs) _ h)
 
 pub demand1 : Demand1
-demand1 (check ws) = record {
-  replied = checked-answer (read ws);
-  faulted = λ r e p h. checked-refuses (read ws) r e p h;
+demand1 (check S ws) = record {
+  replied = checkings .every (checked (read S ws));
+  faulted = λ r e p h. checked-refuses (read S ws) r e p h;
   unchanged = λ r e p h k. tt;
 }
-demand1 (measure ws) = record {
-  replied = reply-answer (measured (read ws));
-  faulted = λ r e p h. measured-refuses (read ws) r e p h;
+demand1 (measure S ws) = record {
+  replied = answers .every (measured (read S ws));
+  faulted = λ r e p h. measured-refuses (read S ws) r e p h;
   unchanged = λ r e p h k. tt;
 }
-demand1 (write ws out) = record {
-  replied = outcome-answer (written (read ws) out);
-  faulted = λ r e p h. written-refuses ws out r e p h;
-  unchanged = λ r e p h k. kept r e p (written-shaped (read ws) out) h k;
+demand1 (write S ws out) = record {
+  replied = outcome-answer answers (written (read S ws) out);
+  faulted = λ r e p h. written-refuses S ws out r e p h;
+  unchanged = λ r e p h k. kept answers r e p (keeps (written-shaped (read S ws) out)) h k;
 }
-demand1 (pack f ws out) = record {
-  replied = outcome-answer (packing f ws out);
-  faulted = λ r e p h. reply-refuses _ (r .0) e p (ap (λ y. y .reply) h);
-  unchanged = λ r e p h k. kept r e p (packing-shaped f ws out) h k;
+demand1 (pack f v ws out) = record {
+  replied = outcome-answer answers (packing f v ws out);
+  faulted = λ r e p h. reply-refuses answers _ (r .0) e p (ap (λ y. y .reply) h);
+  unchanged = λ r e p h k. kept answers r e p (keeps (packing-shaped f v ws out)) h k;
 }
 demand1 (unpack f bs out) = record {
-  replied = outcome-answer (unpacking f bs out);
-  faulted = λ r e p h. reply-refuses _ (r .0) e p (ap (λ y. y .reply) h);
-  unchanged = λ r e p h k. kept r e p (unpacking-shaped f bs out) h k;
+  replied = outcome-answer unpackings (unpacking f bs out);
+  faulted = λ r e p h. reply-refuses unpackings _ (r .0) e p (ap (λ y. y .reply) h);
+  unchanged = λ r e p h k. kept unpackings r e p (unpacking-keeps f bs out) h k;
 }
 
 pub demand2 : Demand2
-demand2 ws out o a t q h = go (replied-is ws out o a h)
+demand2 S ws out o a t q h = go (replied-is S ws out o a h)
   where
-    go : {a : Answer} {o : List ℕ} → Replied ws out a o → Written t out o a
+    go : {a : Answer} {o : List ℕ} → Replied S ws out a o → Written t out o a
     go (refuses-rule k) = not-refused q k
     go (lacks-room {t = u} k l) =
         let z : u ≡ t = same-term k q in
@@ -174,10 +159,10 @@ demand2 ws out o a t q h = go (replied-is ws out o a h)
         record { fits = λ m. (ap Count e', p'); longer = λ i x. never cc }
 
 -- the front of what was written
-front : (ws out o : List ℕ) (n : ℕ) (t : Term) → read ws ≡ accepted t → Allows (write ws out) (Count n, o) → words images (image t) ≡ take n o
-front ws out o n t q h = go refl (replied-is ws out o (Count n) h)
+front : (S : Setting) (ws out o : List ℕ) (n : ℕ) (t : Term) → read S ws ≡ accepted t → Allows (write S ws out) (Count n, o) → words images (image t) ≡ take n o
+front S ws out o n t q h = go refl (replied-is S ws out o (Count n) h)
   where
-    go : {a : Answer} {o : List ℕ} → a ≡ Count n → Replied ws out a o → words images (image t) ≡ take n o
+    go : {a : Answer} {o : List ℕ} → a ≡ Count n → Replied S ws out a o → words images (image t) ≡ take n o
     go c (refuses-rule k) = never cc
     go c (lacks-room k l) = never cc
     go c (writing {t = u} {n = m} k e l p) =
@@ -186,9 +171,9 @@ front ws out o n t q h = go refl (replied-is ws out o (Count n) h)
         rw (p, ← z, ← y) (sym (take-at (words images (image u)) (drop m out) m (sym e)))
 
 pub written-runs : WrittenRuns
-written-runs ws out o n t q h =
-    let f = front ws out o n t q h in
-    let rule = accepted-rule ws t q in
+written-runs S ws out o n t fit q h =
+    let f = front S ws out o n t q h in
+    let rule = accepted-are-rules S ws t fit q .1 in
     let g = images-in-range t (rule .ranged) in (
       record {
         term = image t;
@@ -205,11 +190,11 @@ clash h = never cc
 
 pub no-dead-arms : NoDeadArms
 unfolding checkedReply checked replyOf measured written
-no-dead-arms t r dead = go (read (words rules t)) refl
+no-dead-arms S t r dead = go (read S (words rules t)) refl
   where
-    go : (g : Reading) → read (words rules t) ≡ g → NoneAccepts (words rules t)
+    go : (g : Reading) → read S (words rules t) ≡ g → NoneAccepts S (words rules t)
     go (accepted u) q =
-        let a = accepted-are-rules (words rules t) u q in
+        let a = accepted-are-rules S (words rules t) u (words-fit rules t r) q in
         let z : t ≡ u = words-determine rules t u r (a .1 .ranged) (a .0) in
         absurd (dead (rw z (a .1 .live)))
     go (refused e p) q = record {

@@ -7,6 +7,7 @@ use native.Mathlib.Omega.{arith}
 use lib.ListN.{length}
 use borrow.Author.Tests.{lt-ltb, le-ltb}
 use Rattle.language.specs.Term.{images, Term}
+use Rattle.language.specs.Setting.{Setting}
 use Rattle.language.specs.Words.{words}
 use Rattle.language.specs.Image.{image}
 use Rattle.language.specs.Read.{noPlace, Reading, accepted, refused, read}
@@ -30,29 +31,29 @@ measured-count (accepted t) h k = (t, refl, cc)
 measured-count (refused n p) h k = never cc
 
 -- the words are a rule's, and there is room for its image
-module _ (ws out : List ℕ) {a : Answer} {n : ℕ} (h : replyOf a ≡ measured (read ws)) (k : a ≡ Count n) where
-  writable : n ≤ length out → (t : Term) × Writable t out ws × (read ws ≡ accepted t) × (n ≡ length (words images (image t)))
+module _ (S : Setting) (ws out : List ℕ) {a : Answer} {n : ℕ} (h : replyOf a ≡ measured (read S ws)) (k : a ≡ Count n) where
+  writable : n ≤ length out → (t : Term) × Writable t out ws × (read S ws ≡ accepted t) × (n ≡ length (words images (image t)))
   writable l =
-      let m = measured-count (read ws) h k in
+      let m = measured-count (read S ws) h k in
       let r = accepted-are-rules ws (m .0) (m .1) in
       (m .0, record { rule = r .1; is = r .0; room = omega (arith, m .2) }, m .1, m .2)
 
   pub w-room : n ≤ length out → SomeWritable out ws
   w-room l = let w = writable l in record { term = w .0; writable = w .1 }
 
-  pub w-short : length out < n → told (Refusal 9 noPlace) out ≡ written (read ws) out
+  pub w-short : length out < n → told (Refusal 9 noPlace) out ≡ written (read S ws) out
   unfolding written filled replyOf
-  w-short l = let m = measured-count (read ws) h k in rw (m .1) (simp (lt-ltb (length out) (length (words images (image (m .0)))) (omega (arith, m .2))))
+  w-short l = let m = measured-count (read S ws) h k in rw (m .1) (simp (lt-ltb (length out) (length (words images (image (m .0)))) (omega (arith, m .2))))
 
-  pub w-whole : {r : ℕ} {o : List ℕ} → n ≤ length out → ImageWritten out ws o r → told (Count r) o ≡ written (read ws) out
+  pub w-whole : {r : ℕ} {o : List ℕ} → n ≤ length out → ImageWritten out ws o r → told (Count r) o ≡ written (read S ws) out
   unfolding written filled replyOf
   w-whole l i =
       let w = writable l in
       rw (w .2) (simp (le-ltb (length out) (length (words images (image (w .0)))) (omega (arith, w .3)), i .count (w .0) (w .1), i .output (w .0) (w .1)))
 
-pub w-refused : (ws out : List ℕ) {a : Answer} {e p : ℕ} → replyOf a ≡ measured (read ws) → a ≡ Refusal e p
-    → told (Refusal e p) out ≡ written (read ws) out
+pub w-refused : (S : Setting) (ws out : List ℕ) {a : Answer} {e p : ℕ} → replyOf a ≡ measured (read S ws) → a ≡ Refusal e p
+    → told (Refusal e p) out ≡ written (read S ws) out
 unfolding written replyOf
-w-refused ws out h k = rw (measured-refusal (read ws) h k)
+w-refused S ws out h k = rw (measured-refusal (read S ws) h k)
 
 pub ruleset ways = (w-refused, w-room, w-short, w-whole)
