@@ -1,9 +1,11 @@
 -- What a program in C may rely on, of whatever outcome the contracts allow.
 use Prim.Native.Nat.{ℕ, _<_, _≤_}
 use mathlib.Core.Path.{_≡_}
+use mathlib.Core.Bool.{true}
+use Rattle.language.specs.Kinds.{known}
 use Rattle.language.specs.Limits.{mostWords}
 use Rattle.trust.specs.Promises.{OfWord}
-use Rattle.peatnickel.specs.Numbers.{refusals, refusalNumber}
+use Rattle.peatnickel.specs.Numbers.{refusals, refusalNumber, versedNumber}
 use Rattle.peatnickel.specs.Calls.{Asked, Returned, check, measure, write, pack, unpack, Means}
 
 -- "prove that two outcomes allowed by it are equal": of every call the number too
@@ -12,10 +14,10 @@ NumberDetermined = (c : Asked) (x y : Returned c) → Means c x → Means c y �
 
 -- the number returned
 abbrev pub numberOf : (c : Asked) → Returned c → ℕ
-numberOf (check ws) r = r
-numberOf (measure ws) r = r
-numberOf (write ws out) r = r .0
-numberOf (pack n ws out) r = r .0
+numberOf (check S ws) r = r
+numberOf (measure S ws) r = r
+numberOf (write S ws out) r = r .0
+numberOf (pack n v ws out) r = r .0
 numberOf (unpack n bs out) r = r .0
 
 -- document 01's last refusal
@@ -27,10 +29,11 @@ pub data Number : ℕ → Type 0 where
   base : {e : ℕ} → e ≤ lastRefusal → Number e
   of-word : {e : ℕ} → OfWord e → Number e
 
--- a count, or a refusal at a place that a rule can have
+-- a count, or a refusal at a place that a rule can have; and from unpacking a count with a version that there is
 pub data Returnable : ℕ → Type 0 where
   counts : {n : ℕ} → n < refusals → Returnable n
   refuses : {e p : ℕ} → Number e → p ≤ mostWords → Returnable (refusalNumber e p)
+  reports : (v n : ℕ) → known v ≡ true → n < refusals → Returnable (versedNumber v n)
 
 -- no other number is ever returned
 abbrev pub NumbersRange : Type 0

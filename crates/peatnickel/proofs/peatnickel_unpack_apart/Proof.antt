@@ -1,4 +1,5 @@
--- `peatnickel::peatnickel_unpack_apart` meets its contract: without a form nothing is done; else the number means what `rules::unpack` answered, which is small.
+-- `peatnickel::peatnickel_unpack_apart` meets its contract: without a form nothing is done; else the number means what `rules::unpack` answered, which
+-- is small.
 -- Assumes nothing.
 use borrow.Author.Needs.{needs}
 use Rattle.peatnickel.proofs.Ways.{ways}
@@ -11,14 +12,17 @@ form-of-requires c κs = search needs
 enum-told : tie.Need-enum-told
 enum-told c = search needs
 
+cast-result : tie.Need-cast-result
+cast-result c = search needs
+
 enum-known-f : tie.Need-enum-known-f
 enum-known-f c = search needs
 
 unpack-requires : tie.Need-unpack-requires
 unpack-requires c κs = search needs
 
-number-requires : tie.Need-number-requires
-number-requires c κs = search ways
+unpacked-number-requires : tie.Need-unpacked-number-requires
+unpacked-number-requires c κs = search ways
 
 returns : tie.Need-returns
 returns c = search ways
@@ -35,9 +39,10 @@ peatnickel-unpack-apart-spec =
     (tie.spec
     form-of-requires
     enum-told
+    cast-result
     enum-known-f
     unpack-requires
-    number-requires
+    unpacked-number-requires
     returns
     same-length
     returns-2)
