@@ -11,9 +11,9 @@ use lib.ListN.{length, getD}
 use borrow.Author.Needs.{needs}
 use borrow.Author.Tests.{lt-ltb}
 use Rattle.language.specs.Term.{rules, Term, Terms, Arms, size, sizeᵃ}
-use Rattle.language.specs.Kinds.{mostByte}
+use Rattle.language.specs.Kinds.{mostByte, rowAt}
 use Rattle.language.specs.Words.{head, words, wordsᵗ, wordsᵃ}
-use Rattle.language.specs.Limits.{Ranged, Rangedᵗ, Rangedᵃ, r-var, r-kvar, r-fun, r-call, r-bind, r-con, r-cases, r-nil, r-cons, r-none, r-arm}
+use Rattle.language.specs.Limits.{Ranged, Rangedᵗ, Rangedᵃ, r-var, r-kvar, r-fun, r-call, r-bind, r-con, r-cases, r-num, r-op, r-nil, r-cons, r-none, r-arm}
 use Rattle.language.specs.Run.{atom, atoms}
 use Rattle.language.specs.Places.{Held}
 use Rattle.language.specs.declared.Parts.{Parts}
@@ -22,12 +22,11 @@ use Rattle.language.specs.declared.Row.{Row}
 use Rattle.language.proofs.Clash.{never}
 use Rattle.language.proofs.Heads.{of-kind}
 use Rattle.language.proofs.Places.{first-run, second-run, first-word, next-words, ends}
-use Rattle.atoms.specs.Standing.{term, Stands, Seen, AtomAt}
-use Rattle.atoms.specs.Openings.{headWords, piecesOf, piecesAt, formAt, openingAt, Whole, OpensAt, tested, restAfter}
+use Rattle.atoms.specs.Standing.{term, Stands, Seen, AtomAt, formAt}
+use Rattle.atoms.specs.Openings.{headWords, piecesOf, piecesAt, openingAt, Whole, OpensAt, tested, restAfter}
 use Rattle.atoms.specs.declared.Opening.{Opening}
 use Rattle.atoms.specs.declared.Rest.{Rest}
 use Rattle.atoms.specs.declared.Rest.the-variants.{Left, NoAtom}
-use Rattle.atoms.proofs.Opened.{rowFor}
 use Rattle.atoms.proofs.Standing.{term-least}
 
 -- From `at` on, with i pieces to be passed over and then n terms to be tested, which all stand in s, the pass answers b.
@@ -75,11 +74,11 @@ opening P n m = record { parts = P; words = headWords P; pieces = piecesOf P n m
 -- what a head of the kind k and the low byte a opens, where it stands
 module _ {s : List ℕ} {at to : ℕ} where
   opens : (k a : ℕ) {ws : List ℕ} → Held s (head k a ∷ ws) at to → a ≤ mostByte
-      → openingAt s at ≡ opening (rowFor k .parts) a (getD s (at + 1) 0)
+      → openingAt s at ≡ opening (rowAt k .parts) a (getD s (at + 1) 0)
   unfolding openingAt piecesAt formAt
   opens k a h l =
       let e : getD s at 0 % 256 ≡ a = omega (arith, first-word h) in
-      let f : formAt s at ≡ rowFor k .parts = ap (λ (r : Row). r .parts) (sym (of-kind (getD s at 0) k a (first-word h) l refl)) in
+      let f : formAt s at ≡ rowAt k .parts = ap (λ (r : Row). r .parts) (sym (of-kind (getD s at 0) k a (first-word h) l refl)) in
       rw (e, f)
 
   opens-fun : (o a : ℕ) {ws : List ℕ} → o ≤ 1 → Held s (head (2 + o) a ∷ ws) at to → a ≤ mostByte
@@ -130,6 +129,8 @@ module _ {s : List ℕ} {b : Bool} {n : ℕ} (z : 0 < n) where
         let k′ = next-words k in
         over _ (opens 7 (sizeᵃ ps) k (omega arith)) refl z (omega arith) (omega arith) (omega arith)
         (pass r (first-run (words rules m) (wordsᵃ rules ps) k′) refl (passᵃ rs (second-run (words rules m) (wordsᵃ rules ps) k′) refl p))
+    pass (r-num h) k e p = over _ (opens 10 0 k (omega arith)) (k .past) z (omega (arith, k .past)) (omega arith) (omega arith) p
+    pass (r-op {o} h l rs) k e p = over _ (opens 11 o k (omega arith)) refl z (omega arith) (omega arith) (omega arith) (passᵗ rs (next-words k) refl p)
 
     passᵗ : {ts : Terms} {at to i j : ℕ} → Rangedᵗ rules ts → Held s (wordsᵗ rules ts) at to → j ≡ i + size ts → Pass s b to i n → Pass s b at j n
     passᵗ r-nil k e p = subst₂ (λ (x y : ℕ). Pass s b x y n) (omega (arith, k .past)) (omega arith) p
@@ -168,6 +169,9 @@ module _ {s : List ℕ} where
         on _ (opens 6 t k h) {m = n + size ps} (omega arith) (ap₂ Left (omega arith) (omega arith)) (omega arith) (omega (arith, fits p, k .past))
         (testᵗ rs (next-words k′) refl p)
     test (r-cases {ps = ps} l h r rs) k e p = off _ (opens 7 (sizeᵃ ps) k (omega arith)) refl refl (omega arith) (omega (arith, fits p, k .past))
+    test (r-num h) k e p =
+        on _ (opens 10 0 k (omega arith)) (k .past) (ap₂ Left (omega arith) (omega arith)) (omega arith) (omega (arith, fits p, k .past)) p
+    test (r-op {o} h l rs) k e p = off _ (opens 11 o k (omega arith)) refl refl (omega arith) (omega (arith, fits p, k .past))
 
     testᵗ : {b : Bool} {ts : Terms} {at to n m : ℕ} → Rangedᵗ rules ts → Held s (wordsᵗ rules ts) at to → m ≡ n + size ts → Pass s b to 0 n
         → Pass s (atoms ts && b) at 0 m

@@ -1,19 +1,20 @@
 -- Parts of a rule that stand one after the other, and a part that is taken apart into those that it is made of: a term by its head, a list by
 -- its length.
 -- Assumes nothing.
-use Prim.Native.Nat.{ℕ, _+_, _-_, _*_, _%_, _≤_, _<_}
+use Prim.Native.Nat.{ℕ, _+_, _-_, _*_, _/_, _%_, _≤_, _<_}
 use mathlib.Core.Path.{_≡_, refl, sym, ap, subst, _∙_}
 use mathlib.Core.List.{List, [], _∷_}
 use native.Mathlib.Omega.{arith}
 use lib.ListN.{length, getD, drop, length-append, length-drop}
-use Rattle.language.specs.Term.{rules, Term, Terms, Arms, var, kvar, fun, call, bind, con, cases, cons, none, arm, size, sizeᵃ}
-use Rattle.language.specs.Words.{head, words, wordsᵃ}
+use Rattle.language.specs.Term.{rules, Term, Terms, Arms, var, kvar, fun, call, bind, con, cases, num, op, cons, none, arm, size, sizeᵃ}
+use Rattle.language.specs.Kinds.{operands}
+use Rattle.language.specs.Words.{wordEnd, head, words, wordsᵃ}
 use Rattle.language.specs.Limits.{Rangedᵗ, Rangedᵃ, r-nil, r-cons, r-none, r-arm, depth}
 use Rattle.language.specs.Places.{Held}
-use Rattle.language.specs.declared.Parts.the-variants.{Nothing, Body, FunctionAndArguments, BoundAndBody, CountAndArguments, SubjectAndArms, ArityAndBody}
+use Rattle.language.specs.declared.Parts.the-variants.{Nothing, Body, FunctionAndArguments, BoundAndBody, CountAndArguments, SubjectAndArms, ArityAndBody, HighAndLow, TwoParts}
 use Rattle.language.proofs.Places.{first-run, second-run, first-word, next-words, there}
 use Rattle.atoms.specs.Standing.{Part, term, terms, arms, over, _then_, Thing, source, Seen, Stands, Ends, Counted}
-use Rattle.atoms.proofs.Opened.{Opened, o-var, o-fun, o-call, o-bind, o-con, o-cases}
+use Rattle.atoms.proofs.Opened.{Opened, o-var, o-fun, o-call, o-bind, o-con, o-cases, o-num, o-op}
 
 -- the first of two parts, and the second where the first is known to end
 pub first : {P Q : Part} {s : List ℕ} {at to : ℕ} {x : Thing (P then Q)} → Seen (P then Q) s at to x
@@ -91,6 +92,17 @@ module _ {s : List ℕ} {at to d : ℕ} where
     };
   }
 
+  unfoldable pub open-num : {t : Term} → Opened HighAndLow t → Seen (term d) s at to t → Some (over 3) s at to
+  unfolding words
+  open-num (o-num {n}) k = record { thing = head 10 0 ∷ n / wordEnd ∷ n % wordEnd ∷ []; seen = record { good = refl; held = k .held } }
+
+  unfoldable pub open-op : {t : Term} → Opened TwoParts t → Seen (term d) s at to t → Some (over 1 then terms (d - 1) operands) s at to
+  unfolding words depth
+  open-op (o-op {o} {ps} h e rs) k = record {
+    thing = (head 11 o ∷ [], ps);
+    seen = record { good = (refl, (rs, omega (arith, k .good .1), e)); held = k .held };
+  }
+
   -- n terms and n arms, where n is 0 and where it is not
   module _ {n : ℕ} where
     unfoldable pub open-nil : {ts : Terms} → n ≡ 0 → Rangedᵗ rules ts → Seen (terms d n) s at to ts → Some (over 0) s at to
@@ -133,6 +145,11 @@ pub count-there : {s : List ℕ} {at to d : ℕ} {t : Term} → Opened CountAndA
 unfolding words
 count-there (o-con h l rs) k = let n = next-words (k .held) in record { is = refl; inside = there n; few = omega (arith, first-word n) }
 
+-- the two words behind a number's head
+pub number-there : {s : List ℕ} {at to d : ℕ} {t : Term} → Opened HighAndLow t → Seen (term d) s at to t → at + 2 < length s
+unfolding words
+number-there o-num k = omega (arith, there (next-words (next-words (k .held))))
+
 -- words that stand at a place are there
 reach : {s ws : List ℕ} {at to : ℕ} → Held s ws at to → length ws ≤ length s - at
 reach {s} {ws} {at} {to} h = omega (arith, ap length (h .words), length-append ws (drop to s), length-drop at s)
@@ -147,6 +164,8 @@ term-least (call f ps) = omega arith
 term-least (bind m b) = omega arith
 term-least (con t ps) = omega arith
 term-least (cases m ps) = omega arith
+term-least (num n) = omega arith
+term-least (op o ps) = omega arith
 
 arms-least : (ps : Arms) → 2 * sizeᵃ ps ≤ length (wordsᵃ rules ps)
 unfolding words sizeᵃ

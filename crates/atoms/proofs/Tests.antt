@@ -1,50 +1,44 @@
 -- Which forms are atoms whatever their parts are, which are not, and what the test says of them.
 -- Assumes nothing.
 use Prim.Native.Nat.{ℕ}
-use mathlib.Core.Path.{_≡_, refl, sym, _∙_}
+use mathlib.Core.Path.{_≡_, sym, _∙_}
 use mathlib.Core.Bool.{Bool, true, false}
 use mathlib.Core.List.{List}
 use Rattle.language.specs.Term.{Term}
 use Rattle.language.specs.Run.{atom}
 use Rattle.language.specs.declared.Parts.{Parts}
-use Rattle.language.specs.declared.Parts.the-variants.{Nothing, Body, FunctionAndArguments, BoundAndBody, CountAndArguments, SubjectAndArms, ArityAndBody}
+use Rattle.language.specs.declared.Parts.the-variants.{Nothing, Body, FunctionAndArguments, BoundAndBody, CountAndArguments, SubjectAndArms, ArityAndBody, HighAndLow, TwoParts}
 use Rattle.atoms.specs.Standing.{AtomAt, Parted}
-use Rattle.atoms.proofs.Opened.{Opened, o-var, o-fun, o-call, o-bind, o-con, o-cases, opened}
+use Rattle.atoms.proofs.Opened.{Opened, o-var, o-fun, o-call, o-bind, o-con, o-cases, o-num, o-op, opened}
+use Rattle.atoms.proofs.Ways.{parted}
 
--- which forms are no atoms whatever their parts are, and which are
-abbrev pub Loose : Parts → Type 0
-Loose Nothing = ⊥
-Loose Body = ⊥
-Loose FunctionAndArguments = Unit {0}
-Loose BoundAndBody = Unit {0}
-Loose CountAndArguments = ⊥
-Loose SubjectAndArms = Unit {0}
-Loose ArityAndBody = Unit {0}
+-- `Settles P b`: a term of the form P is an atom or is none, as b tells, whatever its parts are
+abbrev pub Settles : Parts → Bool → Type 0
+Settles Nothing b = true ≡ b
+Settles Body b = true ≡ b
+Settles FunctionAndArguments b = false ≡ b
+Settles BoundAndBody b = false ≡ b
+Settles CountAndArguments b = ⊥
+Settles SubjectAndArms b = false ≡ b
+Settles ArityAndBody b = false ≡ b
+Settles HighAndLow b = true ≡ b
+Settles TwoParts b = false ≡ b
 
-pub loose : {P : Parts} {t : Term} → Opened P t → Loose P → false ≡ atom t
+pub settled : {P : Parts} {t : Term} {b : Bool} → Opened P t → Settles P b → b ≡ atom t
 unfolding atom
-loose (o-var h) l = absurd l
-loose (o-fun e h r) l = absurd l
-loose (o-call h r rs) l = refl
-loose (o-bind r r′) l = refl
-loose (o-con h l rs) a = absurd a
-loose (o-cases h r rs) l = refl
+settled (o-var h) e = sym e
+settled (o-fun l h r) e = sym e
+settled (o-call h r rs) e = sym e
+settled (o-bind r r′) e = sym e
+settled (o-con h l rs) e = absurd e
+settled (o-cases h r rs) e = sym e
+settled o-num e = sym e
+settled (o-op h l rs) e = sym e
 
-var-firm : {t : Term} → Opened Nothing t → true ≡ atom t
-unfolding atom
-var-firm (o-var h) = refl
-
-fun-firm : {t : Term} → Opened Body t → true ≡ atom t
-unfolding atom
-fun-firm (o-fun e h r) = refl
-
--- by the answer; a variable and a function are atoms
+-- by the answer; by the form
 module _ {s : List ℕ} {at d : ℕ} where
   pub told : {a b : Bool} → AtomAt d s at a → a ≡ b → AtomAt d s at b
   told A e = record { is = λ t to k. sym e ∙ A .is t to k }
 
-  pub atom-var : Parted Nothing d s at → AtomAt d s at true
-  atom-var H = record { is = λ t to k. var-firm (opened (k .good .0) (k .held) H) }
-
-  pub atom-fun : Parted Body d s at → AtomAt d s at true
-  atom-fun H = record { is = λ t to k. fun-firm (opened (k .good .0) (k .held) H) }
+  pub atom-settled : {P Q : Parts} {b : Bool} → Parted P d s at → P ≡ Q → Settles Q b → AtomAt d s at b
+  atom-settled H e q = record { is = λ t to k. settled (opened (k .good .0) (k .held) (parted H e)) q }

@@ -10,10 +10,8 @@ use Rattle.language.specs.Words.{words, wordsᵗ, wordsᵃ}
 use Rattle.language.specs.Limits.{Ranged, Rangedᵗ, Rangedᵃ, depth, depthᵗ, depthᵃ}
 use Rattle.language.specs.Run.{atom, atoms}
 use Rattle.language.specs.Places.{Held}
-use Rattle.language.specs.Kinds.{mostByte, atTerm, headOf}
+use Rattle.language.specs.Kinds.{mostByte, rowOf}
 use Rattle.language.specs.declared.Parts.{Parts}
-use Rattle.language.specs.declared.Row.{Row}
-use Rattle.language.specs.declared.Head.the-variants.{Opens}
 
 -- A part of a rule: a term of at most d levels; n terms, or n arms, each of at most d levels; an atom, or n atoms, of at most d levels;
 -- n words, whatever they are; one part and then another.
@@ -74,11 +72,14 @@ pub record Ends (P : Part) (s : List ℕ) (at to : ℕ) : Type 0 where
 pub record AtomAt (d : ℕ) (s : List ℕ) (at : ℕ) (b : Bool) : Type 0 where
   pub is : (t : Term) (to : ℕ) → Seen (term d) s at to t → b ≡ atom t
 
+-- what follows the head at `at`, by the row of its kind: one table serves every version, and a rule that was accepted has heads of its version alone
+unfoldable pub formAt : List ℕ → ℕ → Parts
+unfolding rowOf
+formAt s at = rowOf (getD s at 0) .parts
+
 -- P is what follows the head of a term of at most d levels that stands in s at `at`
 pub record Parted (P : Parts) (d : ℕ) (s : List ℕ) (at : ℕ) : Type 0 where
-  pub row : Row
-  pub opens : headOf atTerm (getD s at 0) ≡ Opens row
-  pub parts : row .parts ≡ P
+  pub is : formAt s at ≡ P
   pub inside : at < length s
   pub deep : 1 ≤ d
 

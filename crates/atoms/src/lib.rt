@@ -1,25 +1,29 @@
 // Whether a term is an atom, told by its words. What stands inside a function is passed over.
-use language::Head;
 use language::Parts;
 ghost use Rattle.language.specs.declared.Parts.the-variants.{CountAndArguments};
 ghost use mathlib.Core.Path.{_≡_};
-ghost use Rattle.atoms.specs.Standing.{term, Stands, AtomAt, Parted, Counted};
-ghost use Rattle.atoms.specs.Openings.{headWords, piecesAt, formAt, Whole, OpensAt, Countable, restAfter};
+ghost use Rattle.atoms.specs.Standing.{term, Stands, AtomAt, formAt, Parted, Counted};
+ghost use Rattle.atoms.specs.Openings.{headWords, piecesAt, Whole, OpensAt, Countable, restAfter};
 
-// The words before the parts of a term; before those of a constructor and the body of an arm a count stands too.
+// The words before the parts of a term; before those of a constructor and the body of an arm a count stands too. A number's words all
+// stand so: it has no parts.
 const HEAD: usize = 1;
 
 pub const HEAD_AND_COUNT: usize = 2;
 
-// What follows the head of the term at `at`, which has at most `depth` levels. No term has a head that is refused.
+pub const HEAD_AND_NUMBER: usize = 3;
+
+// The parts of an operation.
+pub const OPERANDS: u8 = 2;
+
+// What follows the head of the term at `at`, which has at most `depth` levels. What stands here was accepted: the kind alone tells it, in every
+// version.
 pub fn parts_at(s: &[u16], at: usize, depth: usize) -> Parts
     requires { ⌜ Stands (term depth) (now s) at ⌝ }
     ensures { λ r. ⌜ Parted r depth (now (s .entry)) at ⌝ }
 {
-    match language::look(language::AT_TERM, s[at]) {
-        Head::Refused(_) => Parts::Nothing,
-        Head::Opens(row) => row.parts,
-    }
+    let row = language::row_of(s[at]);
+    row.parts
 }
 
 // How many arguments the constructor at `at` has.
@@ -43,7 +47,7 @@ enum Rest {
     NoAtom,
 }
 
-// The words of a head of this form: a constructor's and an arm's have a count.
+// The words of a head of this form: a constructor's and an arm's have a count, a number's has the number.
 fn head_words(parts: Parts) -> usize
     ensures { λ r. ⌜ r ≡ headWords parts ⌝ }
 {
@@ -55,6 +59,8 @@ fn head_words(parts: Parts) -> usize
         Parts::CountAndArguments => HEAD_AND_COUNT,
         Parts::SubjectAndArms => HEAD,
         Parts::ArityAndBody => HEAD_AND_COUNT,
+        Parts::HighAndLow => HEAD_AND_NUMBER,
+        Parts::TwoParts => HEAD,
     }
 }
 
@@ -72,6 +78,8 @@ fn pieces_at(s: &[u16], at: usize, parts: Parts) -> u16
         Parts::CountAndArguments => s[at + 1],
         Parts::SubjectAndArms => low + 1,
         Parts::ArityAndBody => 1,
+        Parts::HighAndLow => 0,
+        Parts::TwoParts => OPERANDS as u16,
     }
 }
 
@@ -110,6 +118,8 @@ fn rest_after(head: Opening, inside: usize, atoms: usize) -> Rest
         Parts::CountAndArguments => Rest::Left(0, atoms - 1 + pieces),
         Parts::SubjectAndArms => Rest::NoAtom,
         Parts::ArityAndBody => Rest::NoAtom,
+        Parts::HighAndLow => Rest::Left(0, atoms - 1),
+        Parts::TwoParts => Rest::NoAtom,
     }
 }
 

@@ -12,4 +12,5 @@ head-words-spec =
     (tie.spec
     (λ c. search openings) (λ c. search openings) (λ c. search openings) (λ c. search openings) (λ c. search openings)
     (λ c. search openings) (λ c. search openings) (λ c. search openings) (λ c. search openings) (λ c. search openings)
-    (λ c. search openings) (λ c. search openings) (λ c. search openings) (λ c. search openings))
+    (λ c. search openings) (λ c. search openings) (λ c. search openings) (λ c. search openings) (λ c. search openings)
+    (λ c. search openings) (λ c. search openings) (λ c. search openings))

@@ -14,4 +14,5 @@ pieces-at-spec =
     (λ c. search openings) (λ c. search openings) (λ c. search openings) (λ c. search openings) (λ c. search openings)
     (λ c. search openings) (λ c. search openings) (λ c. search openings) (λ c. search openings) (λ c. search openings)
     (λ c. search openings) (λ c. search openings) (λ c. search openings) (λ c. search openings) (λ c. search openings)
+    (λ c. search openings) (λ c. search openings) (λ c. search openings) (λ c. search openings) (λ c. search openings)
     (λ c. search openings))

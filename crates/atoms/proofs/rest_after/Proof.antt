@@ -14,4 +14,5 @@ rest-after-spec =
     (λ c. search openings) (λ c. search openings) (λ c. search openings) (λ c. search openings) (λ c. search openings)
     (λ c. search openings) (λ c. search openings) (λ c. search openings) (λ c. search openings) (λ c. search openings)
     (λ c. search openings) (λ c. search openings) (λ c. search openings) (λ c. search openings) (λ c. search openings)
+    (λ c. search openings) (λ c. search openings) (λ c. search openings) (λ c. search openings) (λ c. search openings)
     (λ c. search openings) (λ c. search openings))
