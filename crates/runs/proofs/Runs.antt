@@ -1,16 +1,16 @@
 -- Words written one run after another, and the room that is left for the next; the ends of chains, in the runs in which they are written.
 -- Assumes nothing.
 use Prim.Native.Nat.{ℕ, zero, suc, _+_, _-_}
-use mathlib.Core.Path.{_≡_, refl, sym, ap, subst}
+use mathlib.Core.Path.{_≡_, refl, sym, ap, subst, _∙_}
 use mathlib.Core.List.{List, [], _∷_, _++_, append-nil}
 use native.Mathlib.Omega.{arith}
 use native.Mathlib.Numerals.{sub-one}
 use borrow.Author.Needs.{needs}
 use lib.ListN.{length, length-append}
 use lib.Seq.{length-sets}
-use Rattle.language.specs.Term.{images, size}
+use Rattle.language.specs.Term.{images, Term, kvar, con, op, size}
 use Rattle.language.specs.Words.{head, words, wordsᵗ}
-use Rattle.language.specs.Image.{downto, calling, making}
+use Rattle.language.specs.Image.{to, downto, calling, making, working}
 use Rattle.language.proofs.Forms.{size-downto}
 use Rattle.language.proofs.Stores.{store-more}
 use Rattle.runs.specs.Runs.{Room, Put}
@@ -36,7 +36,7 @@ room-after a b {v} {o} {o′} {p} h f e =
 pub put-as : {a b o o′ : List ℕ} {p end : ℕ} → a ≡ b → Put b o p o′ end → Put a o p o′ end
 put-as {o = o} {o′} {p} {end} e f = subst (λ (l : List ℕ). Put l o p o′ end) (sym e) f
 
--- "k_(n-1) down to k_0", and the two ends of chains
+-- "k_(n-1) down to k_0", and the ends of chains
 downs-none : (n : ℕ) → n ≡ 0 → wordsᵗ images (downto n) ≡ []
 unfolding words downto
 downs-none zero z = refl
@@ -54,11 +54,6 @@ calling-words n =
     let e : suc n ≡ n + 1 = omega arith in
     let k : head 4 (suc (size (downto n))) ≡ 0x0400 + n + 1 = omega (arith, size-downto n) in
     cc
-
-making-words : (t n : ℕ) → 0x0201 ∷ words images (making t n)
-    ≡ (0x0201 ∷ 0x0401 ∷ head 9 n ∷ []) ++ ((head 6 t ∷ n ∷ []) ++ wordsᵗ images (downto n))
-unfolding words
-making-words t n = let e = append-nil (wordsᵗ images (downto n)) in let k = size-downto n in cc
 
 -- One law for each way out of the writers of runs: what was tested and written on the way, and what then was written in all.
 module _ {o : List ℕ} {p : ℕ} where
@@ -81,8 +76,21 @@ module _ {o : List ℕ} {p : ℕ} where
           → Put (wordsᵗ images (downto n)) o″ j o‴ end → Put (0x0201 ∷ words images (calling n)) o p o‴ end
       calling-put f g h = put-as (calling-words n) (put-then f (put-then g h))
 
+      -- the end that hands k_n a term, whose words are ws and then k_(n-1) down to k_0: a constructor's end, and an operation's
+      handing-put : (t : Term) (ws : List ℕ) → words images t ≡ ws ++ wordsᵗ images (downto n) → Put (0x0201 ∷ 0x0401 ∷ head 9 n ∷ []) o p o′ i
+          → Put ws o′ i o″ j → Put (wordsᵗ images (downto n)) o″ j o‴ end → Put (0x0201 ∷ words images (to (kvar n) t)) o p o‴ end
+      unfolding words
+      handing-put t ws e f g h =
+          put-as (ap (λ (l : List ℕ). 0x0201 ∷ 0x0401 ∷ head 9 n ∷ l) (append-nil (words images t) ∙ e)) (put-then f (put-then g h))
+
       pub making-put : (t : ℕ) → Put (0x0201 ∷ 0x0401 ∷ head 9 n ∷ []) o p o′ i → Put (head 6 t ∷ n ∷ []) o′ i o″ j
           → Put (wordsᵗ images (downto n)) o″ j o‴ end → Put (0x0201 ∷ words images (making t n)) o p o‴ end
-      making-put t f g h = put-as (making-words t n) (put-then f (put-then g h))
+      unfolding words
+      making-put t = handing-put (con t (downto n)) (head 6 t ∷ n ∷ []) (ap (λ (m : ℕ). head 6 t ∷ m ∷ wordsᵗ images (downto n)) (size-downto n))
 
-pub ruleset runs = (one-more, two-more, down-none, down-more, calling-put, making-put, needs)
+      pub working-put : (w : ℕ) → Put (0x0201 ∷ 0x0401 ∷ head 9 n ∷ []) o p o′ i → Put (head 11 w ∷ []) o′ i o″ j
+          → Put (wordsᵗ images (downto n)) o″ j o‴ end → Put (0x0201 ∷ words images (working w n)) o p o‴ end
+      unfolding words
+      working-put w = handing-put (op w (downto n)) (head 11 w ∷ []) refl
+
+pub ruleset runs = (one-more, two-more, down-none, down-more, calling-put, making-put, working-put, needs)

@@ -5,7 +5,7 @@ ghost use lib.ListN.{length, getD};
 ghost use Rattle.language.specs.Term.{images};
 ghost use Rattle.language.specs.Kinds.{mostByte};
 ghost use Rattle.language.specs.Words.{head, words, wordsᵗ};
-ghost use Rattle.language.specs.Image.{downto, calling, making};
+ghost use Rattle.language.specs.Image.{downto, calling, making, working};
 ghost use Rattle.runs.specs.Runs.{Room, Put};
 
 // A source variable's index, and a continuation variable's: no function takes one for the other.
@@ -13,7 +13,7 @@ pub struct Source(pub u8);
 
 pub struct Continuation(pub u8);
 
-// The head words that an image adds. A variable's index, or a call's arguments, are added to its head.
+// The head words that an image adds. A variable's index, a call's arguments, a constructor's tag, or the operation, is added to its head.
 const SOURCE: u16 = 0x0100;
 
 pub const ADDED_FUNCTION: u16 = 0x0201;
@@ -27,6 +27,8 @@ pub const LET: u16 = 0x0500;
 const CONSTRUCTOR: u16 = 0x0600;
 
 const CONTINUATION: u16 = 0x0900;
+
+const OPERATION: u16 = 0x0B00;
 
 pub fn put1(out: &mut [u16], pos: usize, a: u16) -> usize
     requires { ⌜ Room (now out) pos 1 ⌝ }
@@ -125,4 +127,14 @@ pub fn put_making(out: &mut [u16], pos: usize, tag: u8, n: u8) -> usize
     let p = put_added(out, pos, CALL_OF_ONE, Continuation(n));
     let q = put2(out, p, CONSTRUCTOR + (tag as u16), n as u16);
     put_down(out, q, n)
+}
+
+// The end of the chain of an operation's parts: of n parts, k_n applied to the operation on k_(n-1) down to k_0.
+pub fn put_working(out: &mut [u16], pos: usize, operation: u8, parts: u8) -> usize
+    requires { ⌜ Room (now out) pos (parts + 4) ⌝ }
+    ensures { λ r. ⌜ Put (0x0201 ∷ words images (working operation parts)) (now (out .entry)) pos (now (out .exit)) r ⌝ }
+{
+    let p = put_added(out, pos, CALL_OF_ONE, Continuation(parts));
+    let q = put1(out, p, OPERATION + (operation as u16));
+    put_down(out, q, parts)
 }
