@@ -2,25 +2,26 @@
 -- form's words is an equation of words for each form.
 -- Assumes nothing.
 use Prim.Native.Nat.{ℕ, _+_, _-_, _%_}
-use mathlib.Core.Path.{_≡_, refl, sym, ap, _∙_}
+use mathlib.Core.Path.{_≡_, refl, sym, ap, ap₂, _∙_}
 use mathlib.Core.Bool.{true, false, false≢true, and-eq-true-iff}
 use mathlib.Core.List.{List, [], _∷_, _++_, append-assoc, append-nil}
 use native.Mathlib.Omega.{arith}
 use lib.ListN.{getD}
-use Rattle.language.specs.Term.{rules, images, Term, Terms, Arms, fun, call, bind, con, cases, nil, cons, size, sizeᵃ}
+use Rattle.language.specs.Term.{rules, images, Term, Terms, Arms, fun, call, bind, con, cases, op, nil, cons, size, sizeᵃ}
+use Rattle.language.specs.Kinds.{operands}
 use Rattle.language.specs.Words.{head, words, wordsᵗ, wordsᵃ}
 use Rattle.language.specs.Run.{atom, atoms}
-use Rattle.language.specs.Image.{passing, carried, carrieds, chain, passingᵃ, calling, making}
+use Rattle.language.specs.Image.{lam, passing, carried, carrieds, chain, passingᵃ, calling, making, working}
 use Rattle.language.specs.Limits.{Rangedᵗ, Rangedᵃ, r-nil, r-cons, r-none, r-arm}
 use Rattle.language.specs.declared.Parts.{Parts}
-use Rattle.language.specs.declared.Parts.the-variants.{Nothing, Body, FunctionAndArguments, BoundAndBody, CountAndArguments, SubjectAndArms, ArityAndBody}
+use Rattle.language.specs.declared.Parts.the-variants.{Nothing, Body, FunctionAndArguments, BoundAndBody, CountAndArguments, SubjectAndArms, ArityAndBody, HighAndLow, TwoParts}
 use Rattle.language.proofs.Forms.{passing-atom, passing-build, size-carrieds, size-passingᵃ}
 use Rattle.language.proofs.Places.{first-word, next-words}
 use Rattle.atoms.specs.Standing.{term, terms, arms, atomic, atomics, Seen, AtomAt, Parted}
-use Rattle.atoms.proofs.Opened.{Opened, o-var, o-fun, o-call, o-bind, o-con, o-cases, opened}
-use Rattle.atoms.proofs.Standing.{open-var, open-fun, open-call, open-bind, open-con, open-cases, open-nil, open-cons, open-none, open-arm, no-arm}
-use Rattle.atoms.proofs.Tests.{Loose, loose}
-use Rattle.writing.specs.Jobs.{passed, kept, keeps, chained, branches, before, after, skipped, _next_, linked, handed, links}
+use Rattle.atoms.proofs.Opened.{Opened, o-var, o-fun, o-call, o-bind, o-con, o-cases, o-num, o-op, opened}
+use Rattle.atoms.proofs.Standing.{open-var, open-fun, open-call, open-bind, open-con, open-cases, open-num, open-op, open-nil, open-cons, open-none, open-arm, no-arm}
+use Rattle.atoms.proofs.Tests.{Settles, settled}
+use Rattle.writing.specs.Jobs.{Job, passed, kept, keeps, chained, branches, before, after, skipped, _next_, linked, handed, links}
 use Rattle.writing.proofs.Jobs.{As, Plan}
 
 -- "A chain is, for each of its terms in order, 0201 0401 and the term's passing form; then 0201 and the ending."
@@ -29,24 +30,29 @@ unfolding words passing links
 words-chain nil e = refl
 words-chain (cons t ts) e = simp (append-nil, words-chain ts e, append-assoc)
 
--- the words of the other passing forms and of the carried forms, in the runs in which they are written
+-- a passing form that is a chain with the end e, where e is the end that the code writes
+chain-words : (ts : Terms) {e e′ : Term} → e ≡ e′ → words images (lam (chain ts e)) ≡ links ts ++ (0x0201 ∷ words images e′)
+unfolding words
+chain-words ts {e} q = words-chain ts e ∙ ap (λ (x : Term). links ts ++ (0x0201 ∷ words images x)) q
+
+-- the words of the passing forms and of the carried forms, in the runs in which they are written
 atom-words : (t : Term) → atom t ≡ true → words images (passing t) ≡ (0x0201 ∷ 0x0401 ∷ head 9 0 ∷ []) ++ words images (carried t)
 unfolding words
 atom-words t e = ap (words images) (passing-atom t e) ∙ ap (λ (l : List ℕ). 0x0201 ∷ 0x0401 ∷ head 9 0 ∷ l) (append-nil (words images (carried t)))
 
 call-words : (f : Term) (ps : Terms) {n : ℕ} → size ps ≡ n
     → words images (passing (call f ps)) ≡ links (cons f ps) ++ (0x0201 ∷ words images (calling n))
-unfolding words passing
-call-words f ps e =
-    words-chain (cons f ps) (calling (size ps)) ∙ ap (λ (m : ℕ). links (cons f ps) ++ (0x0201 ∷ words images (calling m))) e
+unfolding passing
+call-words f ps e = chain-words (cons f ps) (ap calling e)
 
 build-words : (t : ℕ) (ps : Terms) {m n : ℕ} → atoms ps ≡ false → t ≡ m → size ps ≡ n
     → words images (passing (con t ps)) ≡ links ps ++ (0x0201 ∷ words images (making m n))
-unfolding words
-build-words t ps {m} a q e =
-    ap (words images) (passing-build t ps a) ∙ words-chain ps (making t (size ps))
-    ∙ ap (λ (i : ℕ). links ps ++ (0x0201 ∷ words images (making i (size ps)))) q
-    ∙ ap (λ (i : ℕ). links ps ++ (0x0201 ∷ words images (making m i))) e
+build-words t ps a q e = ap (words images) (passing-build t ps a) ∙ chain-words ps (ap₂ making q e)
+
+op-words : (o : ℕ) (ps : Terms) {m n : ℕ} → o ≡ m → size ps ≡ n
+    → words images (passing (op o ps)) ≡ links ps ++ (0x0201 ∷ words images (working m n))
+unfolding passing
+op-words o ps q e = chain-words ps (ap₂ working q e)
 
 bind-words : (m b : Term) → words images (passing (bind m b))
     ≡ (0x0201 ∷ 0x0401 ∷ words images (passing m)) ++ ((0x0201 ∷ 0x0500 ∷ head 9 0 ∷ []) ++ (0x0401 ∷ (words images (passing b) ++ (head 9 1 ∷ []))))
@@ -78,10 +84,14 @@ loosened k = record { good = (k .good .0, k .good .1); held = k .held }
 loosenedᵗ : {s : List ℕ} {at to d n : ℕ} {ts : Terms} → Seen (atomics d n) s at to ts → Seen (terms d n) s at to ts
 loosenedᵗ k = record { good = (k .good .0, k .good .1, k .good .2); held = k .held }
 
+-- the job of a writer of a chain: m words are passed over, the links of n terms are written, and then the end e
+abbrev pub chaining : ℕ → ℕ → ℕ → Term → Job
+chaining d m n e = skipped m next after (chained (d - 1) n) (0x0201 ∷ words images e)
+
 -- what stands at a place, as the plan of its writer has it
 module _ {s : List ℕ} {at to d : ℕ} where
   as-call : {t : Term} → Opened FunctionAndArguments t → Seen (term d) s at to t
-      → As (passed d) (skipped 1 next after (chained (d - 1) (getD s at 0 % 256 + 1)) (0x0201 ∷ words images (calling (getD s at 0 % 256)))) s at to t
+      → As (passed d) (chaining d 1 (getD s at 0 % 256 + 1) (calling (getD s at 0 % 256))) s at to t
   unfolding words open-call
   as-call (o-call {f} {ps} h r rs) k = let y = open-call (o-call h r rs) k in
       record { thing = y .thing; seen = y .seen; same = call-words f ps (omega (arith, first-word (k .held))) }
@@ -92,13 +102,19 @@ module _ {s : List ℕ} {at to d : ℕ} where
   as-let (o-bind {m} {b} r r′) k = let y = open-bind (o-bind r r′) k in record { thing = y .thing; seen = y .seen; same = bind-words m b }
 
   as-build : {t : Term} {n : ℕ} → n ≡ getD s (at + 1) 0 → atom t ≡ false → Opened CountAndArguments t → Seen (term d) s at to t
-      → As (passed d) (skipped 2 next after (chained (d - 1) n) (0x0201 ∷ words images (making (getD s at 0 % 256) n))) s at to t
+      → As (passed d) (chaining d 2 n (making (getD s at 0 % 256) n)) s at to t
   unfolding words atom open-con
   as-build e a (o-con {t} {ps} h l rs) k = let y = open-con e (o-con h l rs) k in record {
     thing = y .thing;
     seen = y .seen;
     same = build-words t ps a (omega (arith, first-word (k .held))) (sym (e ∙ first-word (next-words (k .held))));
   }
+
+  as-operation : {t : Term} → Opened TwoParts t → Seen (term d) s at to t
+      → As (passed d) (chaining d 1 operands (working (getD s at 0 % 256) operands)) s at to t
+  unfolding words open-op
+  as-operation (o-op {o} {ps} h e rs) k = let y = open-op (o-op h e rs) k in
+      record { thing = y .thing; seen = y .seen; same = op-words o ps (omega (arith, first-word (k .held))) e }
 
   as-match : {t : Term} → Opened SubjectAndArms t → Seen (term d) s at to t
       → As (passed d) (skipped 1 next linked (d - 1) next before (0x0201 ∷ getD s at 0 ∷ head 9 0 ∷ []) (branches (d - 1) (getD s at 0 % 256))) s at to t
@@ -111,6 +127,14 @@ module _ {s : List ℕ} {at to d : ℕ} where
   unfolding words carried open-var
   as-var (o-var {i} h) k = let y = open-var (o-var h) (loosened k) in
       record { thing = y .thing; seen = y .seen; same = ap (λ (j : ℕ). head 1 j ∷ []) (omega (arith, first-word (k .held))) }
+
+  as-number : {t : Term} → Opened HighAndLow t → Seen (atomic d) s at to t
+      → As (kept d) (after (after (skipped 3) (getD s at 0 ∷ [])) (getD s (at + 1) 0 ∷ getD s (at + 2) 0 ∷ [])) s at to t
+  unfolding words carried open-num
+  as-number o-num k =
+      let y = open-num o-num (loosened k) in let k′ = next-words (k .held) in
+      let e = first-word (k .held) in let q = first-word k′ in let r = first-word (next-words k′) in let z : at + 1 + 1 ≡ at + 2 = omega arith in
+      record { thing = y .thing; seen = y .seen; same = cc }
 
   as-function : {t : Term} → Opened Body t → Seen (atomic d) s at to t
       → As (kept d) (skipped 1 next before ((getD s at 0 + 1) ∷ []) (handed (d - 1) (head 9 0))) s at to t
@@ -183,8 +207,7 @@ module _ {s : List ℕ} {at d : ℕ} where
         record { thing = t; seen = record { good = (k .good .0, k .good .1, a); held = k .held }; same = atom-words t a };
   }
 
-  pub plan-call : Parted FunctionAndArguments d s at
-      → Plan (passed d) (skipped 1 next after (chained (d - 1) (getD s at 0 % 256 + 1)) (0x0201 ∷ words images (calling (getD s at 0 % 256)))) s at
+  pub plan-call : Parted FunctionAndArguments d s at → Plan (passed d) (chaining d 1 (getD s at 0 % 256 + 1) (calling (getD s at 0 % 256))) s at
   plan-call H = record { plan = λ t to k. as-call (opened (k .good .0) (k .held) H) k }
 
   pub plan-let : Parted BoundAndBody d s at
@@ -192,8 +215,11 @@ module _ {s : List ℕ} {at d : ℕ} where
   plan-let H = record { plan = λ t to k. as-let (opened (k .good .0) (k .held) H) k }
 
   pub plan-build : {n : ℕ} → Parted CountAndArguments d s at → n ≡ getD s (at + 1) 0 → AtomAt d s at false
-      → Plan (passed d) (skipped 2 next after (chained (d - 1) n) (0x0201 ∷ words images (making (getD s at 0 % 256) n))) s at
+      → Plan (passed d) (chaining d 2 n (making (getD s at 0 % 256) n)) s at
   plan-build H e A = record { plan = λ t to k. as-build e (sym (A .is t to k)) (opened (k .good .0) (k .held) H) k }
+
+  pub plan-operation : Parted TwoParts d s at → Plan (passed d) (chaining d 1 operands (working (getD s at 0 % 256) operands)) s at
+  plan-operation H = record { plan = λ t to k. as-operation (opened (k .good .0) (k .held) H) k }
 
   pub plan-match : Parted SubjectAndArms d s at
       → Plan (passed d) (skipped 1 next linked (d - 1) next before (0x0201 ∷ getD s at 0 ∷ head 9 0 ∷ []) (branches (d - 1) (getD s at 0 % 256))) s at
@@ -201,6 +227,10 @@ module _ {s : List ℕ} {at d : ℕ} where
 
   pub plan-var : Parted Nothing d s at → Plan (kept d) (after (skipped 1) (head 1 (getD s at 0 % 256) ∷ [])) s at
   plan-var H = record { plan = λ t to k. as-var (opened (k .good .0) (k .held) H) k }
+
+  pub plan-number : Parted HighAndLow d s at
+      → Plan (kept d) (after (after (skipped 3) (getD s at 0 ∷ [])) (getD s (at + 1) 0 ∷ getD s (at + 2) 0 ∷ [])) s at
+  plan-number H = record { plan = λ t to k. as-number (opened (k .good .0) (k .held) H) k }
 
   pub plan-function : Parted Body d s at → Plan (kept d) (skipped 1 next before ((getD s at 0 + 1) ∷ []) (handed (d - 1) (head 9 0))) s at
   plan-function H = record { plan = λ t to k. as-function (opened (k .good .0) (k .held) H) k }
@@ -233,5 +263,5 @@ module _ {s : List ℕ} {at d : ℕ} where
   pub plan-arity : Parted ArityAndBody d s at → Plan (passed d) (skipped 0) s at
   plan-arity H = record { plan = λ t to k. no-arm (opened (k .good .0) (k .held) H) }
 
-  pub plan-loose : {P : Parts} → Parted P d s at → Loose P → Plan (kept d) (skipped 0) s at
-  plan-loose H l = record { plan = λ t to k. absurd (false≢true (loose (opened (k .good .0) (k .held) H) l ∙ k .good .2)) }
+  pub plan-loose : {P : Parts} → Parted P d s at → Settles P false → Plan (kept d) (skipped 0) s at
+  plan-loose H l = record { plan = λ t to k. absurd (false≢true (settled (opened (k .good .0) (k .held) H) l ∙ k .good .2)) }

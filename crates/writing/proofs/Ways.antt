@@ -10,23 +10,23 @@ use borrow.Author.Needs.{needs}
 use lib.ListN.{length, getD, length-append}
 use Rattle.language.specs.Term.{rules, images, Term}
 use Rattle.language.specs.Words.{head, words}
-use Rattle.language.specs.Image.{passing, calling, making}
-use Rattle.language.specs.Kinds.{mostByte}
-use Rattle.language.specs.Limits.{Ranged, r-var, r-kvar, r-fun, r-call, r-bind, r-con, r-cases}
+use Rattle.language.specs.Image.{passing, calling, making, working}
+use Rattle.language.specs.Kinds.{mostByte, operands}
+use Rattle.language.specs.Limits.{Ranged, r-var, r-kvar, r-fun, r-call, r-bind, r-con, r-cases, r-num, r-op}
 use Rattle.language.specs.Places.{Held}
 use Rattle.language.proofs.Places.{first-word}
 use Rattle.language.specs.declared.Parts.{Parts}
-use Rattle.language.specs.declared.Parts.the-variants.{Nothing, Body, FunctionAndArguments, BoundAndBody, CountAndArguments, SubjectAndArms, ArityAndBody}
+use Rattle.language.specs.declared.Parts.the-variants.{Nothing, Body, FunctionAndArguments, BoundAndBody, CountAndArguments, SubjectAndArms, ArityAndBody, HighAndLow, TwoParts}
 use Rattle.atoms.specs.Standing.{term, Seen, Stands, AtomAt, Parted, Counted}
-use Rattle.atoms.proofs.Standing.{arms-inside}
+use Rattle.atoms.proofs.Standing.{arms-inside, number-there}
 use Rattle.atoms.proofs.Opened.{Opened, o-call, opened}
 use Rattle.atoms.proofs.Ways.{parted}
-use Rattle.atoms.proofs.Tests.{Loose, told, atom-var, atom-fun}
+use Rattle.atoms.proofs.Tests.{Settles, told, atom-settled}
 use Rattle.runs.specs.Runs.{Room, Put}
-use Rattle.sizes.proofs.Lengths.{of-calling, of-making}
+use Rattle.sizes.proofs.Lengths.{of-calling, of-making, of-working}
 use Rattle.writing.specs.Jobs.{Job, passed, kept, keeps, chained, branches, before, after, _next_, linked, handed, Ready, Done}
-use Rattle.writing.proofs.Jobs.{before-room, before-ready, before-done, after-ready, after-room, after-done, next-first, next-second, next-done, skipped-done, ready-as, done-as, Left, left-all, left-as, left-none, left-second, left-before}
-use Rattle.writing.proofs.Plans.{loosened, plan-atom, plan-call, plan-let, plan-build, plan-match, plan-var, plan-function, plan-constructor, plan-no-links, plan-links, plan-no-atoms, plan-atoms, plan-no-arms, plan-arms, plan-arity, plan-loose}
+use Rattle.writing.proofs.Jobs.{before-room, before-ready, before-done, after-ready, after-room, after-done, next-first, next-second, next-done, skipped-done, Plan, ready-as, done-as, Left, left-all, left-as, left-none, left-second, left-before}
+use Rattle.writing.proofs.Plans.{loosened, chaining, plan-atom, plan-call, plan-let, plan-build, plan-operation, plan-match, plan-var, plan-number, plan-function, plan-constructor, plan-no-links, plan-links, plan-no-atoms, plan-atoms, plan-no-arms, plan-arms, plan-arity, plan-loose}
 
 -- numbers that are small enough for what is done with them
 few-arguments : {s : List ℕ} {at to d : ℕ} {t : Term} → Opened FunctionAndArguments t → Seen (term d) s at to t → getD s at 0 % 256 < mostByte
@@ -42,6 +42,8 @@ small-head (r-call l h r rs) k = omega (arith, first-word k)
 small-head (r-bind r r′) k = omega (arith, first-word k)
 small-head (r-con h l rs) k = omega (arith, first-word k)
 small-head (r-cases l h r rs) k = omega (arith, first-word k)
+small-head (r-num h) k = omega (arith, first-word k)
+small-head (r-op h e rs) k = omega (arith, first-word k)
 
 not-none : {n : ℕ} → 0 < n → n ≡ 0 → ⊥
 not-none z e = omega arith
@@ -68,11 +70,11 @@ module _ {s : List ℕ} {at : ℕ} {o : List ℕ} {p : ℕ} where
     pub stands-kept : Ready (kept d) o p s at → Stands (term d) s at
     stands-kept r = record { thing = r .thing; to = r .to; seen = loosened (r .seen) }
 
-    -- no term has an arm's head, and no atom the head of a call, a let or a match
+    -- no term has an arm's head, and no atom the head of a call, a let, a match or an operation
     pub passed-arity : Parted ArityAndBody d s at → Done (passed d) o p s at o at p
     passed-arity H = done-as (plan-arity H) (skipped-done 0 (omega arith))
 
-    pub kept-loose : {P Q : Parts} → Parted P d s at → P ≡ Q → Loose Q → Done (kept d) o p s at o at p
+    pub kept-loose : {P Q : Parts} → Parted P d s at → P ≡ Q → Settles Q false → Done (kept d) o p s at o at p
     kept-loose k e l = done-as (plan-loose (parted k e) l) (skipped-done 0 (omega arith))
 
     -- an atom's passing form
@@ -88,26 +90,53 @@ module _ {s : List ℕ} {at : ℕ} {o : List ℕ} {p : ℕ} where
             → Done (passed d) o p s at o″ to end
         atom-done f D = done-as (plan-atom A) (before-done f D)
 
-    -- a call: the chain over the called term and the arguments, and its end
-    module _ (H : Parted FunctionAndArguments d s at) where
-      call-rest : Ready (passed d) o p s at
-          → Ready (after (chained (d - 1) (getD s at 0 % 256 + 1)) (0x0201 ∷ words images (calling (getD s at 0 % 256)))) o p s (at + 1)
-      call-rest r = next-second (ready-as (plan-call H) r) (skipped-done 1 refl)
+    -- a form that is a chain, with its end e: the links are ready, there is room for the end, and then the form is done
+    module _ {m n : ℕ} (e : Term) (P : Plan (passed d) (chaining d m n e) s at) where
+      chaining-rest : Ready (passed d) o p s at → Ready (after (chained (d - 1) n) (0x0201 ∷ words images e)) o p s (at + m)
+      chaining-rest r = next-second (ready-as P r) (skipped-done m refl)
 
+      chaining-ready : Ready (passed d) o p s at → Ready (chained (d - 1) n) o p s (at + m)
+      chaining-ready r = after-ready (chaining-rest r)
+
+      module _ {o′ : List ℕ} {to i : ℕ} where
+        chaining-room : {l k : ℕ} → length (words images e) ≡ l → k ≡ l + 1 → Ready (passed d) o p s at
+            → Done (chained (d - 1) n) o p s (at + m) o′ to i → Room o′ i k
+        chaining-room q h r D = record { fits = omega (arith, after-room (chaining-rest r) D .fits) }
+
+        chaining-done : {o″ : List ℕ} {end : ℕ} → Done (chained (d - 1) n) o p s (at + m) o′ to i → Put (0x0201 ∷ words images e) o′ i o″ end
+            → Done (passed d) o p s at o″ to end
+        chaining-done D f = done-as P (next-done (skipped-done m refl) (after-done D f))
+
+    -- a call: the chain over the called term and the arguments
+    module _ (H : Parted FunctionAndArguments d s at) where
       pub call-few : Ready (passed d) o p s at → getD s at 0 % 256 < mostByte
       call-few r = few-arguments (opened (r .seen .good .0) (r .seen .held) H) (r .seen)
 
       pub call-ready : Ready (passed d) o p s at → Ready (chained (d - 1) (getD s at 0 % 256 + 1)) o p s (at + 1)
-      call-ready r = after-ready (call-rest r)
+      call-ready = chaining-ready (calling (getD s at 0 % 256)) (plan-call H)
 
       module _ {o′ : List ℕ} {to i : ℕ} where
         pub call-room : Ready (passed d) o p s at → Done (chained (d - 1) (getD s at 0 % 256 + 1)) o p s (at + 1) o′ to i
             → Room o′ i (getD s at 0 % 256 + 4)
-        call-room r D = record { fits = omega (arith, after-room (call-rest r) D .fits, of-calling (getD s at 0 % 256)) }
+        call-room = chaining-room (calling (getD s at 0 % 256)) (plan-call H) (of-calling (getD s at 0 % 256)) (omega arith)
 
         pub call-done : {o″ : List ℕ} {end : ℕ} → Done (chained (d - 1) (getD s at 0 % 256 + 1)) o p s (at + 1) o′ to i
             → Put (0x0201 ∷ words images (calling (getD s at 0 % 256))) o′ i o″ end → Done (passed d) o p s at o″ to end
-        call-done D f = done-as (plan-call H) (next-done (skipped-done 1 refl) (after-done D f))
+        call-done = chaining-done (calling (getD s at 0 % 256)) (plan-call H)
+
+    -- an operation: the chain over its parts
+    module _ (H : Parted TwoParts d s at) where
+      pub operation-ready : Ready (passed d) o p s at → Ready (chained (d - 1) operands) o p s (at + 1)
+      operation-ready = chaining-ready (working (getD s at 0 % 256) operands) (plan-operation H)
+
+      module _ {o′ : List ℕ} {to i : ℕ} where
+        pub operation-room : Ready (passed d) o p s at → Done (chained (d - 1) operands) o p s (at + 1) o′ to i → Room o′ i (operands + 4)
+        operation-room =
+            chaining-room (working (getD s at 0 % 256) operands) (plan-operation H) (of-working (getD s at 0 % 256) operands) (omega arith)
+
+        pub operation-done : {o″ : List ℕ} {end : ℕ} → Done (chained (d - 1) operands) o p s (at + 1) o′ to i
+            → Put (0x0201 ∷ words images (working (getD s at 0 % 256) operands)) o′ i o″ end → Done (passed d) o p s at o″ to end
+        operation-done = chaining-done (working (getD s at 0 % 256) operands) (plan-operation H)
 
     -- a let: its bound term, an added function, and its body
     module _ (H : Parted BoundAndBody d s at) where
@@ -156,23 +185,19 @@ module _ {s : List ℕ} {at : ℕ} {o : List ℕ} {p : ℕ} where
               → Done (branches (d - 1) (getD s at 0 % 256)) o″ l s i o‴ to end → Done (passed d) o p s at o‴ to end
           match-done D f E = done-as (plan-match H) (next-done (skipped-done 1 refl) (next-done D (before-done f E)))
 
-    -- a constructor: the chain over its arguments, and its end; or, of atoms, its two words and its arguments
+    -- a constructor: the chain over its arguments; or, of atoms, its two words and its arguments
     module _ (H : Parted CountAndArguments d s at) {n : ℕ} (N : Counted n s at) where
       module _ (A : AtomAt d s at false) where
-        build-rest : Ready (passed d) o p s at
-            → Ready (after (chained (d - 1) n) (0x0201 ∷ words images (making (getD s at 0 % 256) n))) o p s (at + 2)
-        build-rest r = next-second (ready-as (plan-build H (N .is) A) r) (skipped-done 2 refl)
-
         pub build-ready : Ready (passed d) o p s at → Ready (chained (d - 1) n) o p s (at + 2)
-        build-ready r = after-ready (build-rest r)
+        build-ready = chaining-ready (making (getD s at 0 % 256) n) (plan-build H (N .is) A)
 
         module _ {o′ : List ℕ} {to i : ℕ} where
           pub build-room : Ready (passed d) o p s at → Done (chained (d - 1) n) o p s (at + 2) o′ to i → Room o′ i (n + 5)
-          build-room r D = record { fits = omega (arith, after-room (build-rest r) D .fits, of-making (getD s at 0 % 256) n) }
+          build-room = chaining-room (making (getD s at 0 % 256) n) (plan-build H (N .is) A) (of-making (getD s at 0 % 256) n) (omega arith)
 
           pub build-done : {o″ : List ℕ} {end : ℕ} → Done (chained (d - 1) n) o p s (at + 2) o′ to i
               → Put (0x0201 ∷ words images (making (getD s at 0 % 256) n)) o′ i o″ end → Done (passed d) o p s at o″ to end
-          build-done D f = done-as (plan-build H (N .is) A) (next-done (skipped-done 2 refl) (after-done D f))
+          build-done = chaining-done (making (getD s at 0 % 256) n) (plan-build H (N .is) A)
 
       constructor-rest : Ready (kept d) o p s at → Ready (before (getD s at 0 ∷ getD s (at + 1) 0 ∷ []) (keeps (d - 1) n)) o p s (at + 2)
       constructor-rest r = next-second (ready-as (plan-constructor H (N .is)) r) (skipped-done 2 refl)
@@ -188,13 +213,31 @@ module _ {s : List ℕ} {at : ℕ} {o : List ℕ} {p : ℕ} where
             → Done (keeps (d - 1) n) o′ i s (at + 2) o″ to end → Done (kept d) o p s at o″ to end
         constructor-done f D = done-as (plan-constructor H (N .is)) (next-done (skipped-done 2 refl) (before-done f D))
 
-    -- a variable's carried form, and a function's
+    -- a variable's carried form, a number's, and a function's
     module _ (H : Parted Nothing d s at) where
       pub var-room : Ready (kept d) o p s at → Room o p 1
       var-room r = after-room (ready-as (plan-var H) r) (skipped-done 1 refl)
 
       pub var-done : {o′ : List ℕ} {end : ℕ} → Put (head 1 (getD s at 0 % 256) ∷ []) o p o′ end → Done (kept d) o p s at o′ (at + 1) end
       var-done f = done-as (plan-var H) (after-done (skipped-done 1 refl) f)
+
+    module _ (H : Parted HighAndLow d s at) where
+      pub low-inside : Ready (kept d) o p s at → at + 2 < length s
+      low-inside r = number-there (opened (r .seen .good .0) (r .seen .held) H) (loosened (r .seen))
+
+      pub high-inside : Ready (kept d) o p s at → at + 1 < length s
+      high-inside r = omega (arith, low-inside r)
+
+      pub number-room : Ready (kept d) o p s at → Room o p 1
+      number-room r = after-room (after-ready (ready-as (plan-number H) r)) (skipped-done 3 refl)
+
+      module _ {o′ : List ℕ} {i : ℕ} (f : Put (getD s at 0 ∷ []) o p o′ i) where
+        pub number-left : Ready (kept d) o p s at → Room o′ i 2
+        number-left r = after-room (ready-as (plan-number H) r) (after-done (skipped-done 3 refl) f)
+
+        pub number-done : {o″ : List ℕ} {end : ℕ} → Put (getD s (at + 1) 0 ∷ getD s (at + 2) 0 ∷ []) o′ i o″ end
+            → Done (kept d) o p s at o″ (at + 3) end
+        number-done g = done-as (plan-number H) (after-done (after-done (skipped-done 3 refl) f) g)
 
     module _ (H : Parted Body d s at) where
       function-rest : Ready (kept d) o p s at → Ready (before ((getD s at 0 + 1) ∷ []) (handed (d - 1) (head 9 0))) o p s (at + 1)
@@ -288,8 +331,7 @@ module _ {s : List ℕ} {at : ℕ} {o : List ℕ} {p : ℕ} where
 pub ruleset ways = (
   parted,
   told,
-  atom-var,
-  atom-fun,
+  atom-settled,
   stands-passed,
   stands-kept,
   passed-arity,
@@ -301,6 +343,9 @@ pub ruleset ways = (
   call-few,
   call-room,
   call-done,
+  operation-ready,
+  operation-room,
+  operation-done,
   let-ready,
   let-room,
   let-next,
@@ -317,6 +362,11 @@ pub ruleset ways = (
   constructor-done,
   var-room,
   var-done,
+  low-inside,
+  high-inside,
+  number-room,
+  number-left,
+  number-done,
   function-room,
   function-next,
   function-done,

@@ -31,7 +31,7 @@ image-words t = refl
 module _ {o s : List ℕ} where
   seen : {t : Term} → Writable t o s → Seen (term deepest) s 0 (length s) t
   seen W = record {
-    good = (W .rule .ranged, W .rule .shallow);
+    good = (W .ranged, W .shallow);
     held = subst (λ (l : List ℕ). Held s l 0 (length s)) (W .is) (whole s);
   }
 

@@ -1,15 +1,22 @@
 // Writes the image of a rule that was checked: one forward pass over the rule's words and over the output.
 use atoms::HEAD_AND_COUNT;
+use atoms::HEAD_AND_NUMBER;
+use atoms::OPERANDS;
 use language::LOW_BYTE;
 use language::Parts;
 use runs::Continuation;
 use runs::Source;
 ghost use mathlib.Core.Bool.{true, false};
 ghost use Rattle.language.specs.Words.{head};
-ghost use Rattle.language.specs.declared.Parts.the-variants.{Body, FunctionAndArguments, BoundAndBody, CountAndArguments, SubjectAndArms};
+ghost use Rattle.language.specs.declared.Parts.the-variants.{Body, FunctionAndArguments, BoundAndBody, CountAndArguments, SubjectAndArms, HighAndLow, TwoParts};
 ghost use Rattle.atoms.specs.Standing.{AtomAt, Parted};
 ghost use Rattle.writing.specs.Jobs.{passed, kept, keeps, chained, branches, linked, handed, Ready, Done};
 ghost use Rattle.writing.specs.Written.{SomeWritable, ImageWritten};
+
+// Where the words of a number stand, from its head on.
+const HIGH: usize = 1;
+
+const LOW: usize = 2;
 
 // The next word to read, and the next to write.
 pub struct Places {
@@ -36,6 +43,8 @@ fn put_passing(out: &mut [u16], pos: usize, s: &[u16], at: usize, depth: usize) 
         }
         Parts::SubjectAndArms => put_match(out, pos, s, at, depth),
         Parts::ArityAndBody => Places { at: at, pos: pos },
+        Parts::HighAndLow => put_atom(out, pos, s, at, depth),
+        Parts::TwoParts => put_operation(out, pos, s, at, depth),
     }
 }
 
@@ -78,6 +87,17 @@ fn put_build(out: &mut [u16], pos: usize, s: &[u16], at: usize, depth: usize) ->
     let count = atoms::count_at(s, at, depth);
     let c = put_chain(out, pos, s, at + HEAD_AND_COUNT, depth - 1, count);
     let e = runs::put_making(out, c.pos, tag, count as u8);
+    Places { at: c.at, pos: e }
+}
+
+// The passing form of an operation: that of a constructor that is no atom, but for its one word.
+fn put_operation(out: &mut [u16], pos: usize, s: &[u16], at: usize, depth: usize) -> Places
+    requires { ⌜ Ready (passed depth) (now out) pos (now s) at × Parted TwoParts depth (now s) at ⌝ }
+    ensures { λ r. ⌜ Done (passed depth) (now (out .entry)) pos (now (s .entry)) at (now (out .exit)) (r .at) (r .pos) ⌝ }
+{
+    let operation = (s[at] % LOW_BYTE) as u8;
+    let c = put_chain(out, pos, s, at + 1, depth - 1, OPERANDS as usize);
+    let e = runs::put_working(out, c.pos, operation, OPERANDS);
     Places { at: c.at, pos: e }
 }
 
@@ -135,6 +155,21 @@ fn put_carried(out: &mut [u16], pos: usize, s: &[u16], at: usize, depth: usize) 
         Parts::BoundAndBody => Places { at: at, pos: pos },
         Parts::SubjectAndArms => Places { at: at, pos: pos },
         Parts::ArityAndBody => Places { at: at, pos: pos },
+        Parts::HighAndLow => put_number(out, pos, s, at, depth),
+        Parts::TwoParts => Places { at: at, pos: pos },
+    }
+}
+
+// The carried form of a number: itself.
+fn put_number(out: &mut [u16], pos: usize, s: &[u16], at: usize, depth: usize) -> Places
+    requires { ⌜ Ready (kept depth) (now out) pos (now s) at × Parted HighAndLow depth (now s) at ⌝ }
+    ensures { λ r. ⌜ Done (kept depth) (now (out .entry)) pos (now (s .entry)) at (now (out .exit)) (r .at) (r .pos) ⌝ }
+{
+    let h = runs::put1(out, pos, s[at]);
+    let e = runs::put2(out, h, s[at + HIGH], s[at + LOW]);
+    Places {
+        at: at + HEAD_AND_NUMBER,
+        pos: e,
     }
 }
 
