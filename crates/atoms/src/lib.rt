@@ -13,9 +13,6 @@ pub const HEAD_AND_COUNT: usize = 2;
 
 pub const HEAD_AND_NUMBER: usize = 3;
 
-// The parts of an operation.
-pub const OPERANDS: u8 = 2;
-
 // What follows the head of the term at `at`, which has at most `depth` levels. What stands here was accepted: the kind alone tells it, in every
 // version.
 pub fn parts_at(s: &[u16], at: usize, depth: usize) -> Parts
@@ -79,7 +76,7 @@ fn pieces_at(s: &[u16], at: usize, parts: Parts) -> u16
         Parts::SubjectAndArms => low + 1,
         Parts::ArityAndBody => 1,
         Parts::HighAndLow => 0,
-        Parts::TwoParts => OPERANDS as u16,
+        Parts::TwoParts => language::OPERANDS as u16,
     }
 }
 

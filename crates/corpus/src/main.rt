@@ -1,5 +1,5 @@
-// Runs the translator on many rules: standard input holds records, each a count of words and the words, all low byte first. Of each it prints
-// the refusal and its place, or the image's count and checksum, and the image itself where it is short.
+// Runs the translator on many rules: standard input holds records, each a version, a count of words and the words, all low byte first. Of each it
+// prints the refusal and its place, or the image's count and checksum, and the image itself where it is short.
 use desk::Input;
 use language::Answer;
 use libc::STDIN_FILENO;
@@ -8,12 +8,14 @@ ghost use Prim.Native.Nat.{_+_, _*_, _<_, _≤_};
 ghost use lib.ListN.{length};
 
 // The most bytes of the input, and the most words of a record.
-const MOST_INPUT: usize = 400000;
+const MOST_INPUT: usize = 600000;
 
 const MOST_RECORD: usize = 5000;
 
-// The bytes of a record's count, and of each of its words.
-const COUNT_BYTES: usize = 2;
+// The bytes before a record's words, its version and its count; where the count stands in them; and the bytes of each word.
+const RECORD_HEADER: usize = 4;
+
+const COUNT_AT: usize = 2;
 
 const WORD_BYTES: usize = 2;
 
@@ -94,10 +96,10 @@ fn print_refusal(number: u8, place: usize) -> bool {
         && io::write_all(STDOUT_FILENO, b"\n")
 }
 
-// Translates a rule and prints what came of it.
-fn report(rule: &[u16]) -> bool {
+// Translates a rule, read in a version, and prints what came of it.
+fn report(version: u16, rule: &[u16]) -> bool {
     let mut image = [0u16; language::MOST_IMAGE_WORDS];
-    match rules::write(&mut image, rule) {
+    match rules::write(&mut image, version, rule) {
         Answer::Refusal(e, p) => print_refusal(e, p),
         Answer::Count(n) => n <= language::MOST_IMAGE_WORDS && print_image(&image[..n]),
     }
@@ -113,21 +115,22 @@ fn record(bytes: &[u8], at: usize) -> Reported
         next: end,
         written: true,
     };
-    if end - at < COUNT_BYTES {
+    if end - at < RECORD_HEADER {
         return none;
     }
-    let count = files::word_at(bytes, at) as usize;
+    let version = files::word_at(bytes, at);
+    let count = files::word_at(bytes, at + COUNT_AT) as usize;
     if MOST_RECORD < count {
         return none;
     }
-    if end - at - COUNT_BYTES < WORD_BYTES * count {
+    if end - at - RECORD_HEADER < WORD_BYTES * count {
         return none;
     }
     let mut rule = [0u16; MOST_RECORD];
-    files::take_words(&mut rule, bytes, at + COUNT_BYTES, count);
-    let written = report(&rule[..count]);
+    files::take_words(&mut rule, bytes, at + RECORD_HEADER, count);
+    let written = report(version, &rule[..count]);
     Reported {
-        next: at + COUNT_BYTES + WORD_BYTES * count,
+        next: at + RECORD_HEADER + WORD_BYTES * count,
         written,
     }
 }

@@ -5,6 +5,7 @@ use mathlib.Core.Path.{_≡_}
 use mathlib.Core.List.{List, []}
 use lib.Dec.{ltb}
 use lib.ListN.{length, take, replicate}
+use Rattle.language.specs.Setting.{inVersion}
 use Rattle.language.specs.Limits.{mostWords, mostImageWords}
 use Rattle.language.specs.Read.{noPlace, read}
 use Rattle.language.specs.Calls.{Reply, success, refusal, Outcome, refuses, written, replyOf, told}
@@ -21,9 +22,9 @@ mostBytes = 8199
 abbrev pub zeros : List ℕ
 zeros = replicate mostWords 0
 
--- the words that unpacking gave, written as a rule; or its refusal
-unfoldable pub onward : Reply ℕ → List ℕ → List ℕ → Outcome ℕ
-onward (success n) ws out = written (read (take n ws)) out
+-- the words that unpacking gave, written as a rule in the version that it reported ("Files carry the version": document 02, Wish 13); or its refusal
+unfoldable pub onward : Reply (ℕ × ℕ) → List ℕ → List ℕ → Outcome ℕ
+onward (success (v, n)) ws out = written (read (inVersion v) (take n ws)) out
 onward (refusal e p) ws out = refuses e p out
 
 -- a file of the rules' form, unpacked, and its rule's image in the output

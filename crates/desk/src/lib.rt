@@ -1,5 +1,6 @@
 // The bench's desk: a file of the rules' form comes in, and the whole answer goes out as text. The programs are thin over this.
 use files::Form;
+use files::Unpacked;
 use language::Answer;
 use libc::STDERR_FILENO;
 use libc::STDOUT_FILENO;
@@ -22,7 +23,7 @@ pub enum Input {
     Failed,
 }
 
-// The image of the rule in a file, at the front of the output.
+// The image of the rule in a file, which is read in the version that the file carries, at the front of the output.
 fn translate(out: &mut [u16], bytes: &[u8]) -> Answer
     ensures { λ r. ⌜ Translates (now (bytes .entry)) (now (out .entry)) r (now (out .exit)) ⌝ }
 {
@@ -31,8 +32,8 @@ fn translate(out: &mut [u16], bytes: &[u8]) -> Answer
     }
     let mut rule = [0u16; language::MOST_WORDS];
     match rules::unpack(&mut rule, Form::Rules, bytes) {
-        Answer::Refusal(e, p) => Answer::Refusal(e, p),
-        Answer::Count(n) => rules::write(out, &rule[..n]),
+        Unpacked::Refusal(e, p) => Answer::Refusal(e, p),
+        Unpacked::Words(v, n) => rules::write(out, v, &rule[..n]),
     }
 }
 

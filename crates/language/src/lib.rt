@@ -14,7 +14,7 @@ pub const LOW_BYTE: u16 = 256;
 // The last operation: add, subtract, less. And how many parts each has.
 const LAST_OPERATION: u8 = 2;
 
-pub const OPERANDS: usize = 2;
+pub const OPERANDS: u8 = 2;
 
 // The versions of rules; and the first that has numbers and operations.
 pub const OLDEST: u8 = 1;

@@ -164,7 +164,7 @@ fn opened_at(v: u8, s: &[u16], at: usize, left: usize, bound: usize, low: usize,
         Parts::ArityAndBody => Step::No(language::WRONG_KIND, at),
         Parts::HighAndLow => number_at(s, next),
         Parts::TwoParts => {
-            let chain = terms_at(v, s, next, left, bound, language::OPERANDS);
+            let chain = terms_at(v, s, next, left, bound, language::OPERANDS as usize);
             grown(chain, 0, OPERATION_WORDS)
         }
     }

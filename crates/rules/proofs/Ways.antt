@@ -16,7 +16,9 @@ use Rattle.language.specs.declared.Answer.{Answer}
 use Rattle.language.specs.declared.Answer.the-variants.{Count, Refusal}
 use Rattle.language.proofs.Clash.{never}
 use Rattle.writing.specs.Written.{Writable, SomeWritable, ImageWritten}
+use Rattle.trust.specs.Promises.{Fit}
 use Rattle.trust.proofs.Accepted.{accepted-are-rules}
+use Rattle.trust.proofs.Ranges.{slice-fits}
 
 -- what the measuring call's answer says of the reading
 measured-refusal : (g : Reading) {a : Answer} {e p : ℕ} → replyOf a ≡ measured g → a ≡ Refusal e p → g ≡ refused e p
@@ -31,12 +33,12 @@ measured-count (accepted t) h k = (t, refl, cc)
 measured-count (refused n p) h k = never cc
 
 -- the words are a rule's, and there is room for its image
-module _ (S : Setting) (ws out : List ℕ) {a : Answer} {n : ℕ} (h : replyOf a ≡ measured (read S ws)) (k : a ≡ Count n) where
+module _ (S : Setting) (ws out : List ℕ) (fit : Fit ws) {a : Answer} {n : ℕ} (h : replyOf a ≡ measured (read S ws)) (k : a ≡ Count n) where
   writable : n ≤ length out → (t : Term) × Writable t out ws × (read S ws ≡ accepted t) × (n ≡ length (words images (image t)))
   writable l =
       let m = measured-count (read S ws) h k in
-      let r = accepted-are-rules ws (m .0) (m .1) in
-      (m .0, record { rule = r .1; is = r .0; room = omega (arith, m .2) }, m .1, m .2)
+      let r = accepted-are-rules S ws (m .0) fit (m .1) in
+      (m .0, record { ranged = r .1 .ranged; shallow = r .1 .shallow; is = r .0; room = omega (arith, m .2) }, m .1, m .2)
 
   pub w-room : n ≤ length out → SomeWritable out ws
   w-room l = let w = writable l in record { term = w .0; writable = w .1 }
@@ -56,4 +58,4 @@ pub w-refused : (S : Setting) (ws out : List ℕ) {a : Answer} {e p : ℕ} → r
 unfolding written replyOf
 w-refused S ws out h k = rw (measured-refusal (read S ws) h k)
 
-pub ruleset ways = (w-refused, w-room, w-short, w-whole)
+pub ruleset ways = (slice-fits, w-refused, w-room, w-short, w-whole)

@@ -1,8 +1,8 @@
 // Writes the image of a rule that was checked: one forward pass over the rule's words and over the output.
 use atoms::HEAD_AND_COUNT;
 use atoms::HEAD_AND_NUMBER;
-use atoms::OPERANDS;
 use language::LOW_BYTE;
+use language::OPERANDS;
 use language::Parts;
 use runs::Continuation;
 use runs::Source;

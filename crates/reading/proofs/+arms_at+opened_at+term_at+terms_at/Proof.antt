@@ -147,10 +147,10 @@ pub +arms-at+opened-at+term-at+terms-at-spec : {M : Type 1} → statement M
     (λ c κs. search ways) (λ c. search ways) (λ c. search ways) (λ c. search ways) (λ c κs. search ways)
     (λ c. search ways) (λ c κs. search ways) (λ c. search ways) (λ c κs. search ways) (λ c. search ways)
     (λ c. search ways) (λ c κs. (omega arith, (omega arith, omega arith, search ways))) (λ c κs. search ways)
-    (λ c. search ways) (λ c. search ways) (λ c κs. search ways) (λ c. search ways) (λ c κs. search ways)
-    (λ c κs. search ways) (λ c. search ways) (λ c. search ways) (λ c. search ways) (λ c. search ways)
+    (λ c. search ways) (λ c. search ways) (λ c κs. search ways) (λ c. search ways) (λ c. search ways)
+    (λ c κs. search ways) (λ c κs. search ways) (λ c. search ways) (λ c. search ways) (λ c. search ways)
     (λ c. search ways) (λ c. search ways) (λ c. search ways) (λ c. search ways) (λ c. search ways) (λ c. search ways)
-    (λ c. search ways) (λ c. search ways) (λ c. search ways) (λ c. search ways))
+    (λ c. search ways) (λ c. search ways) (λ c. search ways) (λ c. search ways) (λ c. search ways))
     (λ t. term-at-lts.spec (term-at-calls t) (term-at-at t) term-at.Post
     (λ c. search ways) (λ c. search ways) (λ c. search ways) (λ c. search ways) (λ c κs. search ways) (λ c. search ways)
     (λ c. search ways) (λ c. search ways) (λ c. search ways)
