@@ -7,14 +7,18 @@ use native.Mathlib.Omega.{arith}
 use lib.ListN.{length, take, length-append, length-drop}
 use lib.Seq.{length-take-le}
 use borrow.Author.Tests.{lt-ltb, le-ltb}
+use Rattle.language.specs.Setting.{inVersion}
 use Rattle.language.specs.Read.{noPlace, read}
 use Rattle.language.specs.Calls.{Reply, success, refusal, Outcome, replyOf, told, filled, written}
 use Rattle.language.specs.declared.Answer.{Answer}
 use Rattle.language.specs.declared.Answer.the-variants.{Count, Refusal}
 use Rattle.listing.specs.Text.{replyText}
-use Rattle.files.specs.Files.{unpacking}
-use Rattle.files.proofs.Shapes.{Shaped, stays, fills, filled-shaped, written-shaped, unpacking-shaped}
+use Rattle.files.specs.Files.{taking, unpacking, unpackedReply, toldUnpacked}
+use Rattle.files.proofs.Shapes.{Shaped, stays, fills, filled-shaped, written-shaped, taking-shaped}
+use Rattle.files.proofs.Promises.{versed-success}
 use Rattle.files.specs.declared.Form.the-variants.{Rules}
+use Rattle.files.specs.declared.Unpacked.{Unpacked}
+use Rattle.files.specs.declared.Unpacked.the-variants as unpacked
 use Rattle.desk.specs.Input.{arrivedOf}
 use Rattle.desk.specs.declared.Input.{Input}
 use Rattle.desk.specs.declared.Input.the-variants.{Arrived}
@@ -46,29 +50,31 @@ module _ (bs out : List ℕ) where
   unfolding translated replyOf
   t-long h = record { is = rw (lt-ltb mostBytes (length bs) h); within = refusing; kept = refl }
 
-  module _ (a : Answer) {ws : List ℕ} (l : length bs ≤ mostBytes) (u : told a ws ≡ unpacking Rules bs zeros) where
-    through : translated bs out ≡ onward (replyOf a) ws out
+  module _ (a : Unpacked) {ws : List ℕ} (l : length bs ≤ mostBytes) (u : toldUnpacked a ws ≡ unpacking Rules bs zeros) where
+    through : translated bs out ≡ onward (unpackedReply a) ws out
     unfolding translated
     through = rw (le-ltb mostBytes (length bs) l, ← u)
 
-    pub t-refused : {e p : ℕ} → a ≡ Refusal e p → Translates bs out (Refusal e p) out
-    unfolding replyOf onward
-    t-refused k = record { is = sym (through ∙ ap (λ x. onward (replyOf x) ws out) k); within = refusing; kept = refl }
+    pub t-refused : {e p : ℕ} → a ≡ unpacked.Refusal e p → Translates bs out (Refusal e p) out
+    unfolding replyOf unpackedReply onward
+    t-refused k = record { is = sym (through ∙ ap (λ x. onward (unpackedReply x) ws out) k); within = refusing; kept = refl }
 
-    pub t-inside : {n : ℕ} → a ≡ Count n → n ≤ length ws
-    unfolding replyOf
-    t-inside {n} k =
-        let w : Within (length zeros) (replyOf a) = told-within a u (sound (unpacking-shaped Rules bs zeros)) in
-        let v : n ≤ length zeros = count-within (subst (λ x. Within (length zeros) (replyOf x)) k w) in
-        rw (told-kept a u (sound (unpacking-shaped Rules bs zeros))) v
+    -- the words that were taken stand in the buffer
+    pub t-inside : {v n : ℕ} → a ≡ unpacked.Words v n → n ≤ length ws
+    unfolding unpacking unpackedReply
+    t-inside {v} {n} k =
+        let s = sound (taking-shaped Rules bs zeros) in
+        let r = versed-success (taking Rules bs zeros .reply) (sym (ap (λ x. x .reply) u) ∙ ap unpackedReply k) in
+        let w : n ≤ length zeros = count-within (subst (Within (length zeros)) (r .0) (s .within)) in
+        rw (ap (λ x. length (x .output)) u ∙ s .kept) w
 
-    pub t-written : {n : ℕ} (b : Answer) {o : List ℕ} → a ≡ Count n → told b o ≡ written (read (take n ws)) out
+    pub t-written : {v n : ℕ} (b : Answer) {o : List ℕ} → a ≡ unpacked.Words v n → told b o ≡ written (read (inVersion v) (take n ws)) out
         → Translates bs out b o
-    unfolding replyOf onward
-    t-written {n} b k w = record {
-      is = w ∙ sym (through ∙ ap (λ x. onward (replyOf x) ws out) k);
-      within = told-within b w (sound (written-shaped (read (take n ws)) out));
-      kept = told-kept b w (sound (written-shaped (read (take n ws)) out));
+    unfolding unpackedReply onward
+    t-written {v} {n} b k w = record {
+      is = w ∙ sym (through ∙ ap (λ x. onward (unpackedReply x) ws out) k);
+      within = told-within b w (sound (written-shaped (read (inVersion v) (take n ws)) out));
+      kept = told-kept b w (sound (written-shaped (read (inVersion v) (take n ws)) out));
     }
 
 -- the count of an answer, and none of a refusal

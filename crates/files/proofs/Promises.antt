@@ -133,7 +133,7 @@ takes f bs out n h =
     }
 
 -- a version is reported exactly where words were taken
-versed-success : {w v n : ℕ} (r : Reply ℕ) → versed w r ≡ success (v, n) → (r ≡ success n) × (w ≡ v)
+pub versed-success : {w v n : ℕ} (r : Reply ℕ) → versed w r ≡ success (v, n) → (r ≡ success n) × (w ≡ v)
 unfolding versed
 versed-success {w} {v} {n} (success m) h = let e : _≡_ {A = ℕ × ℕ} (w, m) (v, n) = cc in (ap (λ x. success (x .1)) e, ap (λ x. x .0) e)
 versed-success (refusal e p) h = never cc

@@ -14,6 +14,12 @@ returns c = search needs
 word-at-requires : tie.Need-word-at-requires
 word-at-requires c κs = search needs
 
+add-word-at : tie.Need-add-word-at
+add-word-at c = search needs
+
+word-at-requires-2 : tie.Need-word-at-requires-2
+word-at-requires-2 c κs = search needs
+
 cast-count : tie.Need-cast-count
 cast-count c = search needs
 
@@ -50,14 +56,14 @@ slice-aggregate-report c = simp length-take (omega arith)
 report-requires : tie.Need-report-requires
 report-requires c κs = search needs
 
-add-t11 : tie.Need-add-t11
-add-t11 c = search needs
-
-mul-t8 : tie.Need-mul-t8
-mul-t8 c = search needs
-
 add-t12 : tie.Need-add-t12
 add-t12 c = search needs
+
+mul-t9 : tie.Need-mul-t9
+mul-t9 c = search needs
+
+add-t13 : tie.Need-add-t13
+add-t13 c = search needs
 
 returns-4 : tie.Need-returns-4
 returns-4 c = search needs
@@ -69,6 +75,8 @@ record-spec =
     sub-if1
     returns
     word-at-requires
+    add-word-at
+    word-at-requires-2
     cast-count
     returns-2
     sub-if3
@@ -81,7 +89,7 @@ record-spec =
     array-share-prefix-rule
     slice-aggregate-report
     report-requires
-    add-t11
-    mul-t8
     add-t12
+    mul-t9
+    add-t13
     returns-4)

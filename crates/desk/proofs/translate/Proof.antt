@@ -16,8 +16,8 @@ unpack-requires c κs = search needs
 enum-known-e : tie.Need-enum-known-e
 enum-known-e c = search needs
 
-enum-known-n : tie.Need-enum-known-n
-enum-known-n c = search needs
+enum-known-v : tie.Need-enum-known-v
+enum-known-v c = search needs
 
 array-share-prefix-rule : tie.Need-array-share-prefix-rule
 array-share-prefix-rule c = search ways
@@ -45,7 +45,7 @@ translate-spec =
     slice-aggregate-unpack
     unpack-requires
     enum-known-e
-    enum-known-n
+    enum-known-v
     array-share-prefix-rule
     slice-aggregate-write
     write-requires
