@@ -21,7 +21,7 @@ enum {
 
 struct input {
     uint16_t words[RULE_WORDS_MOST];
-    struct reply reply;
+    struct unpacking unpacked;
 };
 
 static void read_input(FILE *in, struct input *input)
@@ -31,16 +31,17 @@ static void read_input(FILE *in, struct input *input)
     struct byte_list file = { bytes, count };
 
     if (count > FILE_BYTES_MOST)
-        input->reply =
-            (struct reply){ { REFUSED_TOO_MANY_WORDS, 0 }, 0 };
+        input->unpacked = (struct unpacking){
+            .reply = { { REFUSED_TOO_MANY_WORDS, 0 }, 0 }
+        };
     else
-        input->reply =
+        input->unpacked =
             unpack_file(FORM_RULE, file, input->words, RULE_WORDS_MOST);
 }
 
 static struct word_list input_rule(const struct input *input)
 {
-    return (struct word_list){ input->words, input->reply.count };
+    return (struct word_list){ input->words, input->unpacked.reply.count };
 }
 
 static bool is_refused(struct refusal refusal, FILE *out)
@@ -57,15 +58,25 @@ static int translate(FILE *in, FILE *out)
     uint16_t image[IMAGE_WORDS_MOST];
 
     read_input(in, &input);
-    if (is_refused(input.reply.refusal, out))
+    if (is_refused(input.unpacked.reply.refusal, out))
         return EXIT_SUCCESS;
     struct reply reply =
-        write_image(input_rule(&input), image, IMAGE_WORDS_MOST);
+        write_image(input.unpacked.version, input_rule(&input), image,
+                    IMAGE_WORDS_MOST);
     if (is_refused(reply.refusal, out))
         return EXIT_SUCCESS;
     fprintf(out, "ok %zu\n", reply.count);
     print_words(out, (struct word_list){ image, reply.count });
     return EXIT_SUCCESS;
+}
+
+/* Its words; a number also in decimal digits. */
+static void print_value(FILE *out, struct arena *arena,
+                        const struct term *value)
+{
+    print_words(out, value_words(arena, value));
+    if (value->kind == KIND_NUMBER)
+        fprintf(out, "number %lu\n", (unsigned long)value->number);
 }
 
 static void print_result(FILE *out, const char *name, struct arena *arena,
@@ -78,7 +89,7 @@ static void print_result(FILE *out, const char *name, struct arena *arena,
 
     fprintf(out, "%s: %s\n", name, outcomes[result->outcome]);
     if (result->outcome == CAME_TO_VALUE)
-        print_words(out, value_words(arena, result->value));
+        print_value(out, arena, result->value);
     fprintf(out, "values %zu, calls %zu, lets %zu, matches %zu, built %zu\n",
             counts->values, counts->calls, counts->lets, counts->matches,
             counts->built);
@@ -89,10 +100,11 @@ static int run_rule_and_image(FILE *in, FILE *out)
     struct input input;
 
     read_input(in, &input);
-    if (is_refused(input.reply.refusal, out))
+    if (is_refused(input.unpacked.reply.refusal, out))
         return EXIT_SUCCESS;
     struct arena arena = arena_for_runs();
-    struct both_runs runs = run_both(&arena, input_rule(&input));
+    struct both_runs runs =
+        run_both(&arena, input.unpacked.version, input_rule(&input));
     if (!is_refused(runs.refusal, out)) {
         print_result(out, "rule", &arena, &runs.of_rule);
         print_result(out, "image", &arena, &runs.of_image);

@@ -7,6 +7,7 @@ enum { BYTE_BITS = 8, BYTE_MOST = 255 };
 struct corpus {
     FILE *in;
     bool cut_short;
+    uint16_t version;
     size_t count;
     uint16_t words[UINT16_MAX];
 };
@@ -21,6 +22,7 @@ struct corpus *open_corpus(FILE *in)
     }
     corpus->in = in;
     corpus->cut_short = false;
+    corpus->version = 0;
     corpus->count = 0;
     return corpus;
 }
@@ -39,19 +41,31 @@ static bool read_number(struct corpus *corpus, uint16_t *number)
     return true;
 }
 
+/* A number that a record begun has to have. */
+static bool read_further(struct corpus *corpus, uint16_t *number)
+{
+    if (!read_number(corpus, number))
+        corpus->cut_short = true;
+    return !corpus->cut_short;
+}
+
 bool next_record(struct corpus *corpus)
 {
     uint16_t count;
 
-    if (!read_number(corpus, &count))
+    if (!read_number(corpus, &corpus->version) ||
+        !read_further(corpus, &count))
         return false;
     corpus->count = count;
     for (size_t i = 0; i < corpus->count; i++)
-        if (!read_number(corpus, &corpus->words[i])) {
-            corpus->cut_short = true;
+        if (!read_further(corpus, &corpus->words[i]))
             return false;
-        }
     return true;
+}
+
+uint16_t record_version(const struct corpus *corpus)
+{
+    return corpus->version;
 }
 
 struct word_list record_words(const struct corpus *corpus)
@@ -75,8 +89,9 @@ static void write_number(FILE *out, size_t number)
     putc((int)(number >> BYTE_BITS & BYTE_MOST), out);
 }
 
-void write_record(FILE *out, struct word_list words)
+void write_record(FILE *out, uint16_t version, struct word_list words)
 {
+    write_number(out, version);
     write_number(out, words.count);
     for (size_t i = 0; i < words.count; i++)
         write_number(out, words.words[i]);

@@ -1,6 +1,7 @@
 /*
- * A corpus: one record after another to the end of the stream, each a count of
- * words in 16 bits and then the words, all low byte first.
+ * A corpus: one record after another to the end of the stream, each a version
+ * in 16 bits, a count of words in 16 bits and then the words, all low byte
+ * first.
  */
 #ifndef PEER_CORPUS_H
 #define PEER_CORPUS_H
@@ -10,6 +11,9 @@
 
 #include "../translator/words.h"
 
+/* Of a record, before its words: the version and the count. */
+enum { RECORD_HEADER_WORDS = 2 };
+
 struct corpus;
 
 struct corpus *open_corpus(FILE *in);
@@ -18,11 +22,12 @@ struct corpus *open_corpus(FILE *in);
 bool next_record(struct corpus *corpus);
 
 /* The record last read; it stands until the next one is read. */
+uint16_t record_version(const struct corpus *corpus);
 struct word_list record_words(const struct corpus *corpus);
 
 /* False if the stream did not end where a record ends. */
 bool close_corpus(struct corpus *corpus);
 
-void write_record(FILE *out, struct word_list words);
+void write_record(FILE *out, uint16_t version, struct word_list words);
 
 #endif

@@ -107,13 +107,15 @@ static size_t dead_odds_of_rule(struct maker *maker)
                : 0;
 }
 
-void put_rule(struct record *record, uint32_t seed, size_t number)
+void put_rule(struct random_rule *rule, uint32_t seed, size_t number)
 {
     const size_t words_most = RECORD_WORDS_MOST - APPENDED_WORDS_MOST;
+    struct record *record = &rule->record;
     struct maker maker = maker_into(&record->sink, state_of(seed, number));
     bool harmed = one_in(&maker, DAMAGED_ODDS);
     size_t dead_odds = dead_odds_of_rule(&maker);
 
+    rule->version = VERSION_1;
     do {
         maker = maker_into(&record->sink, maker.state);
         maker.dead_odds = dead_odds;
@@ -125,16 +127,17 @@ void put_rule(struct record *record, uint32_t seed, size_t number)
 
 size_t write_stretch(FILE *out, struct stretch stretch)
 {
-    struct record record;
+    struct random_rule rule;
     size_t written = 0;
     size_t bytes = 0;
 
     for (; written < stretch.count; written++) {
-        put_rule(&record, stretch.seed, stretch.first + written);
-        bytes += BYTES_OF_A_WORD * (1 + record.sink.count);
+        put_rule(&rule, stretch.seed, stretch.first + written);
+        struct word_list words = sink_words(&rule.record.sink);
+        bytes += BYTES_OF_A_WORD * (RECORD_HEADER_WORDS + words.count);
         if (bytes > stretch.bytes)
             break;
-        end_record(&record, out);
+        write_record(out, rule.version, words);
     }
     return written;
 }

@@ -18,8 +18,13 @@ struct stretch {
     size_t bytes; /* no record is begun that would end beyond them */
 };
 
+struct random_rule {
+    uint16_t version;
+    struct record record;
+};
+
 /* One rule, whose record is started afresh. */
-void put_rule(struct record *record, uint32_t seed, size_t number);
+void put_rule(struct random_rule *rule, uint32_t seed, size_t number);
 
 /* Writes records; the result is how many. */
 size_t write_stretch(FILE *out, struct stretch stretch);

@@ -109,14 +109,15 @@ static void put_near_other_most(struct maker *maker, enum file_form form)
 /* A random rule, or its image; if it has none, a few words. */
 static void put_terms(struct maker *maker, enum file_form form)
 {
-    struct record record;
+    struct random_rule rule;
     struct word_sink *sink = maker->sink;
 
-    put_rule(&record, next_random(maker), 0);
+    put_rule(&rule, next_random(maker), 0);
+    struct word_list words = sink_words(&rule.record.sink);
     if (form == FORM_RULE)
-        put_words(sink, sink_words(&record.sink));
+        put_words(sink, words);
     else
-        sink->count = write_image(sink_words(&record.sink), sink->words,
+        sink->count = write_image(rule.version, words, sink->words,
                                   IMAGE_WORDS_MOST).count;
     if (sink->count == 0)
         put_few_words(maker, form);

@@ -12,7 +12,7 @@
 #include "gen_record.h"
 #include "gen_runs.h"
 
-static void write_case_o(FILE *out, size_t functions)
+static void write_case_o(struct outlet *out, size_t functions)
 {
     struct record record;
 
@@ -21,18 +21,18 @@ static void write_case_o(FILE *out, size_t functions)
     end_record(&record, out);
 }
 
-static void write_worked_rules(FILE *out)
+static void write_worked_rules(struct outlet *out)
 {
     for (size_t i = 0; i < ACCEPTED_CASES; i++)
-        write_record(out, accepted_cases[i].rule);
+        write_rule(out, accepted_cases[i].rule);
     for (size_t i = 0; i < REFUSED_CASES; i++)
-        write_record(out, refused_cases[i].rule);
-    write_record(out, accepted_cases[0].rule); /* case N lends less to A */
+        write_rule(out, refused_cases[i].rule);
+    write_rule(out, accepted_cases[0].rule); /* case N lends less to A */
     write_case_o(out, O_REFUSED_FUNCTIONS);
     write_case_o(out, O_ACCEPTED_FUNCTIONS);
 }
 
-int generate_corpus(FILE *out)
+static void write_rules(struct outlet *out)
 {
     write_worked_rules(out);
     write_faults(out);
@@ -42,5 +42,12 @@ int generate_corpus(FILE *out)
     write_arguments(out);
     write_runs(out);
     write_random_rules(out);
+}
+
+int generate_corpus(FILE *out)
+{
+    struct outlet first = outlet_for_all(out, VERSION_1);
+
+    write_rules(&first);
     return ferror(out) ? EXIT_FAILURE : EXIT_SUCCESS;
 }

@@ -21,7 +21,8 @@ void put_match_of(struct word_sink *sink, size_t arguments, size_t arity,
     put_kind(sink, KIND_VARIABLE, index);
 }
 
-static void write_call(FILE *out, size_t arguments, struct function function)
+static void write_call(struct outlet *out, size_t arguments,
+                       struct function function)
 {
     struct record record;
 
@@ -31,7 +32,7 @@ static void write_call(FILE *out, size_t arguments, struct function function)
 }
 
 /* Every variable that is bound, a recursive function's own name too. */
-static void write_calls(FILE *out, enum kind kind, size_t arguments)
+static void write_calls(struct outlet *out, enum kind kind, size_t arguments)
 {
     size_t bound = arguments + (kind == KIND_RECURSIVE);
 
@@ -40,7 +41,7 @@ static void write_calls(FILE *out, enum kind kind, size_t arguments)
 }
 
 /* A function with one argument more than the call has, and with one less. */
-static void write_misfits(FILE *out, enum kind kind, size_t arguments)
+static void write_misfits(struct outlet *out, enum kind kind, size_t arguments)
 {
     write_call(out, arguments, (struct function){ kind, arguments + 1, 0 });
     if (arguments > 1)
@@ -48,7 +49,8 @@ static void write_misfits(FILE *out, enum kind kind, size_t arguments)
 }
 
 /* Atoms, or with one argument unfinished at the given place. */
-static void write_constructor(FILE *out, size_t arguments, size_t unfinished)
+static void write_constructor(struct outlet *out, size_t arguments,
+                              size_t unfinished)
 {
     const struct word_list call =
         WORD_LIST(0x0401, 0x0201, 0x0100, 0x0609, 0x0000);
@@ -65,7 +67,7 @@ static void write_constructor(FILE *out, size_t arguments, size_t unfinished)
     end_record(&record, out);
 }
 
-static void write_match(FILE *out, size_t arguments, size_t index)
+static void write_match(struct outlet *out, size_t arguments, size_t index)
 {
     struct record record;
 
@@ -74,7 +76,7 @@ static void write_match(FILE *out, size_t arguments, size_t index)
     end_record(&record, out);
 }
 
-void write_arguments(FILE *out)
+void write_arguments(struct outlet *out)
 {
     for (size_t count = 1; count <= ARGUMENTS_MOST + 1; count++) {
         write_calls(out, KIND_FUNCTION, count);

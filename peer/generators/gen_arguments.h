@@ -3,10 +3,10 @@
 #define PEER_GEN_ARGUMENTS_H
 
 #include <stddef.h>
-#include <stdio.h>
 
 #include "../translator/term.h"
 #include "../translator/words.h"
+#include "gen_record.h"
 
 /* A function that gives the variable of that index back. */
 struct function {
@@ -23,6 +23,6 @@ void put_call_of(struct word_sink *sink, size_t arguments,
 void put_match_of(struct word_sink *sink, size_t arguments, size_t arity,
                   size_t index);
 
-void write_arguments(FILE *out);
+void write_arguments(struct outlet *out);
 
 #endif

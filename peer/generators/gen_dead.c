@@ -59,7 +59,8 @@ void put_depth_for_match(struct word_sink *sink)
     put_repeated(sink, function, RULE_DEPTH_MOST - levels_of_match);
 }
 
-static void write_two_arms(FILE *out, struct arm first, struct arm second)
+static void write_two_arms(struct outlet *out, struct arm first,
+                           struct arm second)
 {
     struct record record;
 
@@ -68,7 +69,7 @@ static void write_two_arms(FILE *out, struct arm first, struct arm second)
     end_record(&record, out);
 }
 
-static void write_many_arms(FILE *out, size_t count, size_t dead,
+static void write_many_arms(struct outlet *out, size_t count, size_t dead,
                             size_t living)
 {
     struct record record;
@@ -79,7 +80,7 @@ static void write_many_arms(FILE *out, size_t count, size_t dead,
 }
 
 /* Dead by the first arm, a middle one and the neighbour; and none dead. */
-static void write_dead_among_many(FILE *out)
+static void write_dead_among_many(struct outlet *out)
 {
     const size_t last = ARMS_MOST - 1;
     const size_t middle = ARMS_MOST / 2;
@@ -102,7 +103,7 @@ _Static_assert(ARGUMENTS_MOST + 2 <= ARMS_MOST,
                "a match has an arm for each arity, and one more");
 
 /* One tag with every arity, and once more with that one if there is such. */
-static void write_arities(FILE *out, size_t again)
+static void write_arities(struct outlet *out, size_t again)
 {
     const size_t arities = ARGUMENTS_MOST + 1;
     bool is_dead = again < arities;
@@ -139,7 +140,7 @@ static const struct arm alike[][2] = {
     { { 127, 0 }, { 255, 0 } },
 };
 
-static void write_alike(FILE *out)
+static void write_alike(struct outlet *out)
 {
     for (size_t i = 0; i < sizeof alike / sizeof alike[0]; i++) {
         write_two_arms(out, alike[i][0], alike[i][1]);
@@ -177,7 +178,7 @@ static const struct nest nests[] = {
 enum { NESTS = sizeof nests / sizeof nests[0], LEVELS = 3 };
 
 /* The matches one inside the other; at the dead level there is a dead arm. */
-static void write_nest(FILE *out, const struct nest *const *levels,
+static void write_nest(struct outlet *out, const struct nest *const *levels,
                        size_t dead)
 {
     struct record record;
@@ -193,7 +194,7 @@ static void write_nest(FILE *out, const struct nest *const *levels,
 }
 
 /* For each two nests a third in turn; a dead arm at each level and at none. */
-static void write_nests(FILE *out)
+static void write_nests(struct outlet *out)
 {
     for (size_t i = 0; i < NESTS; i++)
         for (size_t j = 0; j < NESTS; j++)
@@ -220,8 +221,8 @@ static const struct word_list bodies[] = {
     WORD_LIST(LEAF),
 };
 
-static void write_two_lists(FILE *out, bool deep, struct word_list before,
-                            struct word_list after)
+static void write_two_lists(struct outlet *out, bool deep,
+                            struct word_list before, struct word_list after)
 {
     struct record record;
 
@@ -234,7 +235,7 @@ static void write_two_lists(FILE *out, bool deep, struct word_list before,
 }
 
 /* The body in the dead arm and in one that is not, and ahead of a dead arm. */
-static void write_bodies(FILE *out, bool deep)
+static void write_bodies(struct outlet *out, bool deep)
 {
     const struct word_list dead = WORD_LIST(0x0702, LEAF, ARM, LEAF, ARM);
     const struct word_list living =
@@ -269,7 +270,7 @@ static const struct word_list second_arms[] = {
 };
 
 /* A second word of which the low byte is an earlier arm's is out of range. */
-static void write_second_arms(FILE *out)
+static void write_second_arms(struct outlet *out)
 {
     const struct word_list before = WORD_LIST(0x0702, LEAF, ARM, LEAF);
     const size_t byte_more = LOW_BYTE_MOST + 1;
@@ -282,7 +283,7 @@ static void write_second_arms(FILE *out)
 }
 
 /* 18 at a rule's last word, the longest rule's, comes before 3. */
-static void write_dead_last_word(FILE *out)
+static void write_dead_last_word(struct outlet *out)
 {
     const struct word_list before = WORD_LIST(0x0702, LEAF, ARM);
     const struct word_list dead = WORD_LIST(ARM);
@@ -295,17 +296,17 @@ static void write_dead_last_word(FILE *out)
     end_record(&record, out);
 }
 
-static void write_worked_dead(FILE *out)
+static void write_worked_dead(struct outlet *out)
 {
     struct word_list whole = dead_cases[0].rule;
 
     for (size_t i = 0; i < DEAD_CASES; i++)
-        write_record(out, dead_cases[i].rule);
+        write_rule(out, dead_cases[i].rule);
     for (size_t words = 1; words < whole.count; words++)
-        write_record(out, (struct word_list){ whole.words, words });
+        write_rule(out, (struct word_list){ whole.words, words });
 }
 
-void write_dead_arms(FILE *out)
+void write_dead_arms(struct outlet *out)
 {
     write_worked_dead(out);
     write_dead_among_many(out);

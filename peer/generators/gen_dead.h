@@ -2,10 +2,9 @@
 #ifndef PEER_GEN_DEAD_H
 #define PEER_GEN_DEAD_H
 
-#include <stdio.h>
-
 #include "../translator/words.h"
 #include "gen_arms.h"
+#include "gen_record.h"
 
 /* A match with two arms. */
 void put_two_arms(struct word_sink *sink, struct arm first,
@@ -27,6 +26,6 @@ void put_many_arms(struct word_sink *sink, struct many_arms arms);
 /* Functions, so that a match after them has its parts at the last depth. */
 void put_depth_for_match(struct word_sink *sink);
 
-void write_dead_arms(FILE *out);
+void write_dead_arms(struct outlet *out);
 
 #endif

@@ -18,7 +18,7 @@ enum {
 };
 
 /* A fault before the last place is followed by words that are faults too. */
-static void end_fault(struct record *record, size_t place, FILE *out)
+static void end_fault(struct record *record, size_t place, struct outlet *out)
 {
     for (size_t i = 0; place < LAST_PLACE && i < TRAILING_WORDS; i++)
         put_word(&record->sink, TRAILING_WORD);
@@ -39,7 +39,7 @@ static void put_match_up_to(struct word_sink *sink, size_t place)
     put_filler(sink, place - 1);
 }
 
-static void write_head_fault(FILE *out, size_t place, uint16_t word)
+static void write_head_fault(struct outlet *out, size_t place, uint16_t word)
 {
     struct record record;
 
@@ -50,7 +50,7 @@ static void write_head_fault(FILE *out, size_t place, uint16_t word)
     end_fault(&record, place, out);
 }
 
-static void write_arm_fault(FILE *out, size_t place, uint16_t word)
+static void write_arm_fault(struct outlet *out, size_t place, uint16_t word)
 {
     struct record record;
 
@@ -60,7 +60,8 @@ static void write_arm_fault(FILE *out, size_t place, uint16_t word)
     end_fault(&record, place, out);
 }
 
-static void write_second_fault(FILE *out, size_t place, uint16_t second)
+static void write_second_fault(struct outlet *out, size_t place,
+                               uint16_t second)
 {
     struct record record;
 
@@ -71,7 +72,8 @@ static void write_second_fault(FILE *out, size_t place, uint16_t second)
     end_fault(&record, place, out);
 }
 
-static void write_arm_second_fault(FILE *out, size_t place, uint16_t second)
+static void write_arm_second_fault(struct outlet *out, size_t place,
+                                   uint16_t second)
 {
     struct record record;
 
@@ -82,7 +84,7 @@ static void write_arm_second_fault(FILE *out, size_t place, uint16_t second)
 }
 
 /* 2: the words themselves are not looked at. */
-static void write_too_many(FILE *out, size_t words, bool well_formed)
+static void write_too_many(struct outlet *out, size_t words, bool well_formed)
 {
     struct record record;
 
@@ -96,12 +98,13 @@ static void write_too_many(FILE *out, size_t words, bool well_formed)
 }
 
 /* 3: the front of a longer rule; a rule is never whole before its end. */
-static void write_cut_rule(FILE *out, struct word_list rule, size_t words)
+static void write_cut_rule(struct outlet *out, struct word_list rule,
+                           size_t words)
 {
-    write_record(out, (struct word_list){ rule.words, words });
+    write_rule(out, (struct word_list){ rule.words, words });
 }
 
-static void write_cut_filler(FILE *out, size_t words)
+static void write_cut_filler(struct outlet *out, size_t words)
 {
     struct record record;
 
@@ -111,7 +114,8 @@ static void write_cut_filler(FILE *out, size_t words)
 }
 
 /* 6: the word at the place stands at depth 65, below a let if not the first. */
-static void write_too_deep(FILE *out, size_t place, struct word_list at_place)
+static void write_too_deep(struct outlet *out, size_t place,
+                           struct word_list at_place)
 {
     const struct word_list function = WORD_LIST(0x0201);
     struct record record;
@@ -128,7 +132,7 @@ static void write_too_deep(FILE *out, size_t place, struct word_list at_place)
 }
 
 /* 8 */
-static void write_words_left(FILE *out, size_t place, size_t left)
+static void write_words_left(struct outlet *out, size_t place, size_t left)
 {
     struct record record;
 
@@ -139,7 +143,7 @@ static void write_words_left(FILE *out, size_t place, size_t left)
     end_record(&record, out);
 }
 
-static void write_missing_words(FILE *out)
+static void write_missing_words(struct outlet *out)
 {
     write_cut_filler(out, 1);
     write_cut_filler(out, MIDDLE_PLACE);
@@ -148,7 +152,7 @@ static void write_missing_words(FILE *out)
             write_cut_rule(out, accepted_cases[i].rule, words);
 }
 
-static void write_bad_kinds(FILE *out)
+static void write_bad_kinds(struct outlet *out)
 {
     static const uint16_t at_term[] = { 0x0000, 0x00FF, 0x0800, 0x0801,
                                         0x0900, 0x0901, 0x0AFF, 0x1000,
@@ -171,7 +175,7 @@ static void write_bad_kinds(FILE *out)
         write_arm_fault(out, EARLY_PLACE, at_arm[i]);
 }
 
-static void write_bad_head(FILE *out, enum kind kind, size_t low)
+static void write_bad_head(struct outlet *out, enum kind kind, size_t low)
 {
     uint16_t word = head_word(kind, (uint8_t)low);
 
@@ -180,7 +184,7 @@ static void write_bad_head(FILE *out, enum kind kind, size_t low)
 }
 
 /* Those kinds of which a low byte can be outside the range. */
-static void write_bad_heads(FILE *out)
+static void write_bad_heads(struct outlet *out)
 {
     static const struct range {
         enum kind kind;
@@ -207,7 +211,7 @@ static void write_bad_heads(FILE *out)
 }
 
 /* One past the range and farther; two that have a low byte within it. */
-static void write_bad_ranges(FILE *out)
+static void write_bad_ranges(struct outlet *out)
 {
     static const uint16_t seconds[] = {
         ARGUMENTS_MOST + 1, 2 * ARGUMENTS_MOST + 1, LOW_BYTE_MOST,
@@ -241,7 +245,7 @@ static const struct word_list at_depth_65[] = {
     WORD_LIST(0x0201, 0x0100),
 };
 
-static void write_depths(FILE *out)
+static void write_depths(struct outlet *out)
 {
     const struct word_list variable = WORD_LIST(0x0100);
 
@@ -251,9 +255,9 @@ static void write_depths(FILE *out)
     write_too_deep(out, LAST_PLACE, variable);
 }
 
-void write_faults(FILE *out)
+void write_faults(struct outlet *out)
 {
-    write_record(out, (struct word_list){ NULL, 0 });
+    write_rule(out, (struct word_list){ NULL, 0 });
     write_too_many(out, RULE_WORDS_MOST + 1, true);
     write_too_many(out, RECORD_WORDS_MOST, false);
     write_missing_words(out);

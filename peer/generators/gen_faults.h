@@ -2,8 +2,8 @@
 #ifndef PEER_GEN_FAULTS_H
 #define PEER_GEN_FAULTS_H
 
-#include <stdio.h>
+#include "gen_record.h"
 
-void write_faults(FILE *out);
+void write_faults(struct outlet *out);
 
 #endif

@@ -32,7 +32,8 @@ static const struct nest nests[] = {
 };
 
 /* The leaf stands at the given depth. */
-static void write_nest(FILE *out, const struct nest *nest, size_t depth)
+static void write_nest(struct outlet *out, const struct nest *nest,
+                       size_t depth)
 {
     struct record record;
 
@@ -43,7 +44,7 @@ static void write_nest(FILE *out, const struct nest *nest, size_t depth)
     end_record(&record, out);
 }
 
-static void write_nests(FILE *out)
+static void write_nests(struct outlet *out)
 {
     for (size_t i = 0; i < sizeof nests / sizeof nests[0]; i++) {
         write_nest(out, &nests[i], 2);
@@ -58,7 +59,8 @@ static void write_nests(FILE *out)
  * part of the one before, or its last. The deepest parts, a call's, stand at
  * the given depth, so that no constructor is an atom.
  */
-static void write_wide_nest(FILE *out, enum kind kind, bool last, size_t depth)
+static void write_wide_nest(struct outlet *out, enum kind kind, bool last,
+                            size_t depth)
 {
     const struct word_list call = WORD_LIST(0x0401, 0x0100, 0x0100);
     const size_t levels_of_others = 3; /* a function, the call, its parts */
@@ -79,7 +81,7 @@ static void write_wide_nest(FILE *out, enum kind kind, bool last, size_t depth)
     end_record(&record, out);
 }
 
-static void write_wide_nests(FILE *out)
+static void write_wide_nests(struct outlet *out)
 {
     static const enum kind kinds[] = { KIND_CALL, KIND_CONSTRUCTOR };
 
@@ -91,7 +93,7 @@ static void write_wide_nests(FILE *out)
 }
 
 /* A match of the last arm's tag, each arm with an arity of its own. */
-static void write_arms(FILE *out, size_t arms)
+static void write_arms(struct outlet *out, size_t arms)
 {
     struct record record;
 
@@ -107,7 +109,8 @@ static void write_arms(FILE *out, size_t arms)
     end_record(&record, out);
 }
 
-static void write_edge(FILE *out, struct word_list binder, size_t index)
+static void write_edge(struct outlet *out, struct word_list binder,
+                       size_t index)
 {
     struct record record;
 
@@ -118,7 +121,8 @@ static void write_edge(FILE *out, struct word_list binder, size_t index)
 }
 
 /* Index bound - 1 is accepted, index bound refused. */
-static void write_edges(FILE *out, struct word_list binder, size_t bound)
+static void write_edges(struct outlet *out, struct word_list binder,
+                        size_t bound)
 {
     if (bound > 0)
         write_edge(out, binder, bound - 1);
@@ -126,7 +130,7 @@ static void write_edges(FILE *out, struct word_list binder, size_t bound)
     write_edge(out, binder, LOW_BYTE_MOST);
 }
 
-static void write_edges_of_one_binder(FILE *out)
+static void write_edges_of_one_binder(struct outlet *out)
 {
     const struct word_list let = WORD_LIST(0x0500, 0x0600, 0x0000);
     const struct word_list bound_term = WORD_LIST(0x0500);
@@ -150,7 +154,7 @@ static void write_edges_of_one_binder(FILE *out)
     write_edges(out, subject, 1);
 }
 
-static void write_edges_of_many_binders(FILE *out)
+static void write_edges_of_many_binders(struct outlet *out)
 {
     const struct word_list all_kinds =
         WORD_LIST(0x0203, 0x0302, 0x0500, 0x0600, 0x0000, 0x0701, 0x0600,
@@ -172,7 +176,8 @@ static void write_edges_of_many_binders(FILE *out)
 }
 
 /* Index 255 where so many variables are bound, by the fewest functions. */
-static void write_highest_index(FILE *out, enum kind kind, size_t bound)
+static void write_highest_index(struct outlet *out, enum kind kind,
+                                size_t bound)
 {
     size_t bound_by_one = ARGUMENTS_MOST + (kind == KIND_RECURSIVE);
     struct record record;
@@ -187,7 +192,7 @@ static void write_highest_index(FILE *out, enum kind kind, size_t bound)
 }
 
 /* It needs 256. */
-static void write_highest_indices(FILE *out)
+static void write_highest_indices(struct outlet *out)
 {
     static const enum kind kinds[] = { KIND_FUNCTION, KIND_RECURSIVE };
 
@@ -197,7 +202,7 @@ static void write_highest_indices(FILE *out)
     }
 }
 
-static void write_filler(FILE *out, size_t words)
+static void write_filler(struct outlet *out, size_t words)
 {
     struct record record;
 
@@ -224,7 +229,7 @@ static void put_call_tree(struct word_sink *sink, size_t calls)
 }
 
 /* Calls of variables come nearest to seven words for one. */
-static void write_long_image(FILE *out, size_t calls, size_t functions)
+static void write_long_image(struct outlet *out, size_t calls, size_t functions)
 {
     const struct word_list function = WORD_LIST(0x0201);
     struct record record;
@@ -236,7 +241,7 @@ static void write_long_image(FILE *out, size_t calls, size_t functions)
 }
 
 /* As many calls as a rule holds, then functions up to its last word. */
-static void write_longest_images(FILE *out)
+static void write_longest_images(struct outlet *out)
 {
     const size_t call_words = ARGUMENTS_MOST + 1;
     const size_t few_calls = 20;
@@ -249,7 +254,7 @@ static void write_longest_images(FILE *out)
     write_long_image(out, calls, functions + 1);
 }
 
-void write_limits(FILE *out)
+void write_limits(struct outlet *out)
 {
     const size_t long_filler = 1000;
     const size_t short_fillers = 12;

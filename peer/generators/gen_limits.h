@@ -2,8 +2,8 @@
 #ifndef PEER_GEN_LIMITS_H
 #define PEER_GEN_LIMITS_H
 
-#include <stdio.h>
+#include "gen_record.h"
 
-void write_limits(FILE *out);
+void write_limits(struct outlet *out);
 
 #endif

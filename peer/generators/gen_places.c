@@ -103,7 +103,7 @@ static const struct fault faults[FAULTS] = {
 };
 
 /* One part inside the other, the fault inside both. */
-static void write_fault(FILE *out, const struct part *outer,
+static void write_fault(struct outlet *out, const struct part *outer,
                         const struct part *inner, const struct fault *fault)
 {
     struct record record;
@@ -121,14 +121,15 @@ static void write_fault(FILE *out, const struct part *outer,
     end_record(&record, out);
 }
 
-static void write_faults_of_one_part(FILE *out, const struct part *part)
+static void write_faults_of_one_part(struct outlet *out,
+                                     const struct part *part)
 {
     for (size_t i = 0; i < FAULTS; i++)
         write_fault(out, &whole_rule, part, &faults[i]);
 }
 
 /* For each two parts one of the faults, in turn. */
-static void write_faults_of_two_parts(FILE *out)
+static void write_faults_of_two_parts(struct outlet *out)
 {
     for (size_t i = 0; i < PARTS; i++)
         for (size_t j = 0; j < PARTS; j++)
@@ -136,7 +137,8 @@ static void write_faults_of_two_parts(FILE *out)
 }
 
 /* In a let's body, so that the word tested has that place. */
-static void write_fault_at(FILE *out, size_t place, const struct fault *fault)
+static void write_fault_at(struct outlet *out, size_t place,
+                           const struct fault *fault)
 {
     struct record front;
 
@@ -148,7 +150,7 @@ static void write_fault_at(FILE *out, size_t place, const struct fault *fault)
 }
 
 /* About the end of one byte; of each digit, for one fault; the highest of 3. */
-static void write_far_faults(FILE *out)
+static void write_far_faults(struct outlet *out)
 {
     static const size_t digits[] = { 9, 10, 99, 100, 999, 1000 };
 
@@ -162,7 +164,7 @@ static void write_far_faults(FILE *out)
         write_fault_at(out, digits[i], &faults[SECOND_RANGE]);
 }
 
-void write_places(FILE *out)
+void write_places(struct outlet *out)
 {
     write_faults_of_one_part(out, &whole_rule);
     for (size_t i = 0; i < PARTS; i++)

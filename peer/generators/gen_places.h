@@ -2,8 +2,8 @@
 #ifndef PEER_GEN_PLACES_H
 #define PEER_GEN_PLACES_H
 
-#include <stdio.h>
+#include "gen_record.h"
 
-void write_places(FILE *out);
+void write_places(struct outlet *out);
 
 #endif

@@ -78,7 +78,7 @@ void put_random_words(struct maker *maker, struct record *record)
     }
 }
 
-void write_random_rules(FILE *out)
+void write_random_rules(struct outlet *out)
 {
     struct record record;
     struct maker maker = maker_into(&record.sink, SEED);

@@ -2,8 +2,6 @@
 #ifndef PEER_GEN_RANDOM_H
 #define PEER_GEN_RANDOM_H
 
-#include <stdio.h>
-
 #include "gen_record.h"
 #include "maker.h"
 
@@ -14,6 +12,6 @@ void put_random_words(struct maker *maker, struct record *record);
 /* Changes one word; the record has at least one. */
 void damage_word(struct maker *maker, struct record *record);
 
-void write_random_rules(FILE *out);
+void write_random_rules(struct outlet *out);
 
 #endif

@@ -1,13 +1,35 @@
 #include "gen_record.h"
 
+struct outlet outlet_for_some(FILE *file, uint16_t version, size_t words_most,
+                              size_t step)
+{
+    return (struct outlet){ .file = file,
+                            .version = version,
+                            .words_most = words_most,
+                            .step = step };
+}
+
+struct outlet outlet_for_all(FILE *file, uint16_t version)
+{
+    return outlet_for_some(file, version, SIZE_MAX, 1);
+}
+
+void write_rule(struct outlet *out, struct word_list rule)
+{
+    if (rule.count > out->words_most)
+        return;
+    if (out->offered++ % out->step == 0)
+        write_record(out->file, out->version, rule);
+}
+
 void start_record(struct record *record)
 {
     record->sink = sink_into(record->words, RECORD_WORDS_MOST);
 }
 
-void end_record(struct record *record, FILE *out)
+void end_record(struct record *record, struct outlet *out)
 {
-    write_record(out, sink_words(&record->sink));
+    write_rule(out, sink_words(&record->sink));
 }
 
 void put_kind(struct word_sink *sink, enum kind kind, size_t low)

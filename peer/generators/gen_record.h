@@ -17,8 +17,23 @@ struct record {
     uint16_t words[RECORD_WORDS_MOST];
 };
 
+/* Where generated rules go: which of them, and what version they are told. */
+struct outlet {
+    FILE *file;
+    uint16_t version;
+    size_t words_most; /* longer rules are left out */
+    size_t step;       /* of the others, one in so many is written */
+    size_t offered;    /* of the others, so far */
+};
+
+struct outlet outlet_for_all(FILE *file, uint16_t version);
+struct outlet outlet_for_some(FILE *file, uint16_t version, size_t words_most,
+                              size_t step);
+
+void write_rule(struct outlet *out, struct word_list rule);
+
 void start_record(struct record *record);
-void end_record(struct record *record, FILE *out);
+void end_record(struct record *record, struct outlet *out);
 
 /* A head of any kind, right or wrong. */
 void put_kind(struct word_sink *sink, enum kind kind, size_t low);

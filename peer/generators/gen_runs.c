@@ -96,7 +96,7 @@ static const struct word_list without_end[] = {
 };
 
 /* A value that doubles with every let. */
-static void write_doubling(FILE *out, size_t lets)
+static void write_doubling(struct outlet *out, size_t lets)
 {
     const struct word_list first = WORD_LIST(0x0500, NOUGHT);
     const struct word_list doubling =
@@ -111,7 +111,7 @@ static void write_doubling(FILE *out, size_t lets)
 }
 
 /* Squares a number by recursion, so that runs grow long. */
-static void write_square(FILE *out, size_t number)
+static void write_square(struct outlet *out, size_t number)
 {
     const struct word_list before =
         WORD_LIST(0x0500, PLUS, 0x0500, TIMES, 0x0401, 0x0201, 0x0402, 0x0101,
@@ -127,7 +127,7 @@ static void write_square(FILE *out, size_t number)
 }
 
 /* A match of one tag, with an arm for each arity in falling order. */
-static void write_forms(FILE *out, size_t arguments)
+static void write_forms(struct outlet *out, size_t arguments)
 {
     struct record record;
 
@@ -148,7 +148,7 @@ static void write_forms(FILE *out, size_t arguments)
 }
 
 /* All the arguments that a constructor may have, put into another order. */
-static void write_reordered(FILE *out)
+static void write_reordered(struct outlet *out)
 {
     struct record record;
 
@@ -166,13 +166,14 @@ static void write_reordered(FILE *out)
     end_record(&record, out);
 }
 
-static void write_all(FILE *out, const struct word_list *rules, size_t count)
+static void write_all(struct outlet *out, const struct word_list *rules,
+                      size_t count)
 {
     for (size_t i = 0; i < count; i++)
-        write_record(out, rules[i]);
+        write_rule(out, rules[i]);
 }
 
-void write_runs(FILE *out)
+void write_runs(struct outlet *out)
 {
     const size_t lets = 10;
     const size_t far_too_many_lets = 50;

@@ -2,8 +2,8 @@
 #ifndef PEER_GEN_RUNS_H
 #define PEER_GEN_RUNS_H
 
-#include <stdio.h>
+#include "gen_record.h"
 
-void write_runs(FILE *out);
+void write_runs(struct outlet *out);
 
 #endif

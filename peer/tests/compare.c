@@ -86,6 +86,19 @@ static void print_reply(FILE *out, const char *name, struct span reply)
         putc('\n', out);
 }
 
+/* The rule in question, unless the records have ended. */
+static void print_where(FILE *out, const struct corpus *corpus, size_t records,
+                        bool more)
+{
+    if (!more) {
+        fprintf(out, "difference after %zu records\n", records);
+        return;
+    }
+    fprintf(out, "difference at record %zu, of version %u, of the words\n",
+            records - 1, (unsigned)record_version(corpus));
+    print_words(out, record_words(corpus));
+}
+
 /* Past the last record there must be nothing on either side. */
 int compare_replies(FILE *in, const char *replies, const char *other_replies,
                     FILE *out)
@@ -105,11 +118,7 @@ int compare_replies(FILE *in, const char *replies, const char *other_replies,
         records += more;
     } while (same && more);
     if (!same) {
-        fprintf(out, more ? "difference at record %zu, of the words\n"
-                          : "difference after %zu records\n",
-                more ? records - 1 : records);
-        if (more)
-            print_words(out, record_words(corpus));
+        print_where(out, corpus, records, more);
         print_reply(out, replies, reply);
         print_reply(out, other_replies, other_reply);
     }

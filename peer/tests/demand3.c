@@ -38,21 +38,23 @@ static struct word_list image_words(struct arena *arena,
     return sink_words(&sink);
 }
 
-static struct run_result run_image(struct arena *arena, struct word_list image)
+static struct run_result run_image(struct arena *arena, uint16_t version,
+                                   struct word_list image)
 {
     const struct bounds bounds = { RULE_STEPS * IMAGE_STEPS_PER_RULE_STEP,
                                    RUN_DEPTH };
-    struct reading reading = read_image(arena, image);
+    struct reading reading = read_image(arena, version, image);
 
     if (reading.term == NULL) /* not an image at all, so it has no value */
         return (struct run_result){ .outcome = NO_VALUE };
     return run_term(arena, LAYOUT_IMAGE, reading.term, bounds);
 }
 
-struct both_runs run_both(struct arena *arena, struct word_list rule)
+struct both_runs run_both(struct arena *arena, uint16_t version,
+                          struct word_list rule)
 {
     const struct bounds bounds = { RULE_STEPS, RUN_DEPTH };
-    struct reading reading = read_rule(arena, rule);
+    struct reading reading = read_rule(arena, version, rule);
     struct both_runs runs = { .refusal = reading.refusal,
                               .of_rule = { .outcome = NO_VALUE },
                               .of_image = { .outcome = NO_VALUE } };
@@ -61,7 +63,7 @@ struct both_runs run_both(struct arena *arena, struct word_list rule)
         return runs;
     runs.image = image_words(arena, reading.term);
     runs.of_rule = run_term(arena, LAYOUT_RULE, reading.term, bounds);
-    runs.of_image = run_image(arena, runs.image);
+    runs.of_image = run_image(arena, version, runs.image);
     return runs;
 }
 
@@ -153,14 +155,16 @@ bool image_is_short_enough(struct word_list rule, struct word_list image)
 }
 
 /* False on the first disagreement. */
-static bool try_rule(struct word_list rule, struct figures *figures)
+static bool try_rule(uint16_t version, struct word_list rule,
+                     struct figures *by_version)
 {
     struct arena arena = arena_for_runs();
-    struct both_runs runs = run_both(&arena, rule);
+    struct both_runs runs = run_both(&arena, version, rule);
     bool fine = true;
 
     if (runs.refusal.number == REFUSED_NOTHING) {
         enum agreement agreement = demand3_agreement(&arena, &runs);
+        struct figures *figures = &by_version[version];
 
         figures->accepted++;
         figures->came_to_value += runs.of_rule.outcome == CAME_TO_VALUE;
@@ -174,10 +178,8 @@ static bool try_rule(struct word_list rule, struct figures *figures)
     return fine;
 }
 
-static void print_figures(FILE *out, size_t records,
-                          const struct figures *figures)
+static void print_figures(FILE *out, const struct figures *figures)
 {
-    fprintf(out, "records %zu\n", records);
     fprintf(out, "accepted %zu\n", figures->accepted);
     fprintf(out, "came to a value %zu\n", figures->came_to_value);
     fprintf(out, "agreed %zu\n", figures->agreed);
@@ -185,20 +187,33 @@ static void print_figures(FILE *out, size_t records,
     fprintf(out, "gave up %zu\n", figures->undecided);
 }
 
+/* An unknown version's rules are refused, so they have no figures. */
+static void print_all_figures(FILE *out, size_t records,
+                              const struct figures *by_version)
+{
+    fprintf(out, "records %zu\n", records);
+    for (int version = VERSION_1; version <= VERSION_2; version++) {
+        fprintf(out, "version %d\n", version);
+        print_figures(out, &by_version[version]);
+    }
+}
+
 int demand3_over_corpus(FILE *in, FILE *out)
 {
     struct corpus *corpus = open_corpus(in);
-    struct figures figures = { 0 };
+    struct figures by_version[VERSION_2 + 1] = { 0 };
     size_t records = 0;
     bool fine = true;
 
     while (fine && next_record(corpus)) {
-        fine = try_rule(record_words(corpus), &figures);
+        fine = try_rule(record_version(corpus), record_words(corpus),
+                        by_version);
         records++;
     }
-    print_figures(out, records, &figures);
+    print_all_figures(out, records, by_version);
     if (!fine) {
-        fprintf(out, "disagreement at record %zu\n", records - 1);
+        fprintf(out, "disagreement at record %zu, version %u\n", records - 1,
+                (unsigned)record_version(corpus));
         print_words(out, record_words(corpus));
     }
     return close_corpus(corpus) && fine ? EXIT_SUCCESS : EXIT_FAILURE;

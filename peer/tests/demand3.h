@@ -30,7 +30,8 @@ enum agreement {
 /* An arena with the memory that both runs of one rule may spend. */
 struct arena arena_for_runs(void);
 
-struct both_runs run_both(struct arena *arena, struct word_list rule);
+struct both_runs run_both(struct arena *arena, uint16_t version,
+                          struct word_list rule);
 
 enum agreement demand3_agreement(struct arena *arena,
                                  const struct both_runs *runs);

@@ -23,9 +23,12 @@ static uint32_t checksum(struct word_list list)
     return sum_of_sums << CHECKSUM_HALF_BITS | sum;
 }
 
-static void translate_record(struct word_list rule, uint16_t *image, FILE *out)
+static void translate_record(const struct corpus *corpus, uint16_t *image,
+                             FILE *out)
 {
-    struct reply reply = write_image(rule, image, IMAGE_WORDS_MOST);
+    struct reply reply =
+        write_image(record_version(corpus), record_words(corpus), image,
+                    IMAGE_WORDS_MOST);
     struct word_list words = { image, reply.count };
 
     if (reply.refusal.number != REFUSED_NOTHING) {
@@ -44,6 +47,6 @@ int translate_corpus(FILE *in, FILE *out)
     struct corpus *corpus = open_corpus(in);
 
     while (next_record(corpus))
-        translate_record(record_words(corpus), image, out);
+        translate_record(corpus, image, out);
     return close_corpus(corpus) ? EXIT_SUCCESS : EXIT_FAILURE;
 }

@@ -12,54 +12,7 @@
 #include "selftest_dead.h"
 #include "selftest_files.h"
 #include "tally.h"
-
-static void try_writing(struct tally *tally, const struct accepted_case *it)
-{
-    uint16_t output[LENT_WORDS];
-
-    lend_words(output);
-    struct reply reply = write_image(it->rule, output, LENT_WORDS);
-    expect(tally, check_rule(it->rule).number == REFUSED_NOTHING, it->name,
-           "accepted");
-    expect(tally, measure_image(it->rule).count == it->image_count, it->name,
-           "image words by the measuring call");
-    expect(tally, reply.count == it->image_count, it->name,
-           "image words by the writing call");
-    expect(tally, untouched_from(output, it->image_count), it->name,
-           "words past the image are unchanged");
-    lend_words(output);
-    reply = write_image(it->rule, output, it->image_count - 1);
-    expect(tally,
-           is_placeless(reply.refusal, REFUSED_OUTPUT_SHORT) &&
-               untouched_from(output, 0),
-           it->name, "an output one word short is refused and unchanged");
-}
-
-static void try_running(struct tally *tally, const struct accepted_case *it)
-{
-    struct arena arena = arena_for_runs();
-    struct both_runs runs = run_both(&arena, it->rule);
-    bool has_value = runs.of_rule.outcome == CAME_TO_VALUE;
-
-    expect(tally,
-           has_value && words_are_equal(value_words(&arena, runs.of_rule.value),
-                                        it->value),
-           it->name, "value");
-    expect(tally, runs.of_image.counts.calls == it->applications, it->name,
-           "applications");
-    expect(tally, demand3_agreement(&arena, &runs) == AGREED, it->name,
-           "demand 3");
-    expect(tally, image_is_short_enough(it->rule, runs.image), it->name,
-           "image at most seven times the rule");
-    arena_release(&arena);
-}
-
-struct run_case {
-    const char *claim;
-    struct word_list rule;
-    struct word_list value;
-    struct counts counts;
-};
+#include "trials.h"
 
 /* Beyond the paper's cases: values put into functions, and all five counts. */
 static const struct run_case run_cases[] = {
@@ -90,33 +43,7 @@ static const struct run_case run_cases[] = {
       { .values = 13, .calls = 3, .matches = 3, .built = 2 } },
 };
 
-static bool counts_are(const struct counts *found,
-                       const struct counts *expected)
-{
-    return found->values == expected->values &&
-           found->calls == expected->calls && found->lets == expected->lets &&
-           found->matches == expected->matches &&
-           found->built == expected->built;
-}
-
-static void try_run_cases(struct tally *tally)
-{
-    for (size_t i = 0; i < sizeof run_cases / sizeof run_cases[0]; i++) {
-        const struct run_case *it = &run_cases[i];
-        struct arena arena = arena_for_runs();
-        struct both_runs runs = run_both(&arena, it->rule);
-        bool has_value = runs.of_rule.outcome == CAME_TO_VALUE;
-
-        expect(tally,
-               has_value &&
-                   words_are_equal(value_words(&arena, runs.of_rule.value),
-                                   it->value) &&
-                   counts_are(&runs.of_rule.counts, &it->counts) &&
-                   demand3_agreement(&arena, &runs) == AGREED,
-               "runs", it->claim);
-        arena_release(&arena);
-    }
-}
+enum { RUN_CASES = sizeof run_cases / sizeof run_cases[0] };
 
 enum { VALUES_SO_FAR = 10, THEIR_CALLS = 20 };
 
@@ -141,7 +68,7 @@ static void try_endless(struct tally *tally)
     const struct word_list calls_itself =
         WORD_LIST(0x0401, 0x0301, 0x0401, 0x0101, 0x0100, 0x0600, 0x0000);
     struct arena arena = arena_for_runs();
-    struct both_runs runs = run_both(&arena, calls_itself);
+    struct both_runs runs = run_both(&arena, VERSION_1, calls_itself);
 
     expect(tally,
            runs.of_rule.outcome == GAVE_UP &&
@@ -155,14 +82,6 @@ static void try_endless(struct tally *tally)
     arena_release(&arena);
 }
 
-static void try_refused(struct tally *tally, const struct refused_case *cases,
-                        size_t count)
-{
-    for (size_t i = 0; i < count; i++)
-        expect(tally, every_call_refuses(cases[i].rule, cases[i].refusal),
-               cases[i].name, "refused by every call, with its place");
-}
-
 /* A word more than a rule may have is not read; without it one is missing. */
 static void try_highest_place(struct tally *tally)
 {
@@ -173,10 +92,10 @@ static void try_highest_place(struct tally *tally)
 
     put_filler(&sink, RULE_WORDS_MOST + 1);
     struct word_list rule = sink_words(&sink);
-    expect(tally, every_call_refuses(rule, too_many), "places",
+    expect(tally, every_call_refuses(VERSION_1, rule, too_many), "places",
            "one word more than a rule may have");
     rule.count--;
-    expect(tally, every_call_refuses(rule, missing), "places",
+    expect(tally, every_call_refuses(VERSION_1, rule, missing), "places",
            "as many words as a rule may have, and one is missing");
 }
 
@@ -195,23 +114,14 @@ static void try_printing(struct tally *tally)
     expect(tally, strcmp(line, "no 5 17\n") == 0, "places", "a refusal's line");
 }
 
-static void try_image(struct tally *tally, const struct image_case *it)
-{
-    uint16_t output[LENT_WORDS];
-    struct reply reply = write_image(it->rule, output, LENT_WORDS);
-    struct word_list found = { output, reply.count };
-
-    expect(tally, words_are_equal(found, it->image), it->name, "whole image");
-}
-
 static void try_images(struct tally *tally)
 {
     const struct image_case case_b = { "case B", accepted_cases[1].rule,
                                        case_b_image };
 
-    try_image(tally, &case_b);
+    try_image(tally, VERSION_1, &case_b);
     for (size_t i = 0; i < IMAGE_CASES; i++)
-        try_image(tally, &image_cases[i]);
+        try_image(tally, VERSION_1, &image_cases[i]);
 }
 
 /* Each call the last argument of another, with as many as it may have. */
@@ -232,10 +142,10 @@ static void try_deepest_image(struct tally *tally)
     struct arena arena = arena_for_runs();
 
     put_deepest_in_image(&sink);
-    struct both_runs runs = run_both(&arena, sink_words(&sink));
+    struct both_runs runs = run_both(&arena, VERSION_1, sink_words(&sink));
     expect(tally,
            runs.refusal.number == REFUSED_NOTHING &&
-               read_image(&arena, runs.image).term != NULL,
+               read_image(&arena, VERSION_1, runs.image).term != NULL,
            "images", "the deepest is read");
     arena_release(&arena);
 }
@@ -246,11 +156,11 @@ static void try_case_n(struct tally *tally)
     struct word_list rule = accepted_cases[0].rule;
 
     lend_words(output);
-    struct reply reply = write_image(rule, output, N_SHORT_OUTPUT);
+    struct reply reply = write_image(VERSION_1, rule, output, N_SHORT_OUTPUT);
     expect(tally, is_placeless(reply.refusal, REFUSED_OUTPUT_SHORT), "case N",
            "refused with 7 words");
     expect(tally, untouched_from(output, 0), "case N", "output unchanged");
-    reply = write_image(rule, output, N_LONG_ENOUGH_OUTPUT);
+    reply = write_image(VERSION_1, rule, output, N_LONG_ENOUGH_OUTPUT);
     expect(tally, reply.count == N_LONG_ENOUGH_OUTPUT, "case N",
            "written with 8 words");
     expect(tally, untouched_from(output, N_LONG_ENOUGH_OUTPUT), "case N",
@@ -265,30 +175,36 @@ static void try_case_o(struct tally *tally)
     struct word_sink accepted = sink_into(words, LENT_WORDS);
 
     put_case_o(&refused, O_REFUSED_FUNCTIONS);
-    expect(tally, every_call_refuses(sink_words(&refused), too_deep), "case O",
-           "refused with 64 functions");
+    expect(tally,
+           every_call_refuses(VERSION_1, sink_words(&refused), too_deep),
+           "case O", "refused with 64 functions");
     put_case_o(&accepted, O_ACCEPTED_FUNCTIONS);
     expect(tally,
-           check_rule(sink_words(&accepted)).number == REFUSED_NOTHING,
+           check_rule(VERSION_1, sink_words(&accepted)).number ==
+               REFUSED_NOTHING,
            "case O", "accepted with 63 functions");
+}
+
+/* What the first version accepts, the second takes for the same. */
+static void try_version(struct tally *tally, uint16_t version)
+{
+    try_accepted(tally, version, accepted_cases, ACCEPTED_CASES);
+    try_runs(tally, version, run_cases, RUN_CASES);
 }
 
 int run_selftest(FILE *out)
 {
     struct tally tally = { out, 0, 0 };
 
-    for (size_t i = 0; i < ACCEPTED_CASES; i++) {
-        try_writing(&tally, &accepted_cases[i]);
-        try_running(&tally, &accepted_cases[i]);
-    }
-    try_refused(&tally, refused_cases, REFUSED_CASES);
-    try_refused(&tally, place_cases, PLACE_CASES);
-    try_refused(&tally, dead_cases, DEAD_CASES);
+    try_version(&tally, VERSION_1);
+    try_version(&tally, VERSION_2);
+    try_refused(&tally, VERSION_1, refused_cases, REFUSED_CASES);
+    try_refused(&tally, VERSION_1, place_cases, PLACE_CASES);
+    try_refused(&tally, VERSION_1, dead_cases, DEAD_CASES);
     try_dead_arms(&tally);
     try_arguments(&tally);
     try_highest_place(&tally);
     try_printing(&tally);
-    try_run_cases(&tally);
     try_endless(&tally);
     try_images(&tally);
     try_deepest_image(&tally);

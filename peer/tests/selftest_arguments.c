@@ -19,7 +19,7 @@ static bool last_is_in_range(struct word_list before, uint16_t last,
     start_record(&record);
     put_words(&record.sink, before);
     put_word(&record.sink, last);
-    return is_refusal(check_rule(sink_words(&record.sink)),
+    return is_refusal(check_rule(VERSION_1, sink_words(&record.sink)),
                       in_range ? missing : range);
 }
 
@@ -60,8 +60,9 @@ static bool binds(struct word_list before, size_t bound)
         start_record(&record);
         put_words(&record.sink, before);
         put_kind(&record.sink, KIND_VARIABLE, index);
-        holds = holds && is_refusal(check_rule(sink_words(&record.sink)),
-                                    index < bound ? nothing : unbound);
+        struct refusal found =
+            check_rule(VERSION_1, sink_words(&record.sink));
+        holds = holds && is_refusal(found, index < bound ? nothing : unbound);
     }
     return holds;
 }
@@ -87,7 +88,8 @@ static void try_bound(struct tally *tally)
 static bool comes_to(const struct record *record, struct word_list value)
 {
     struct arena arena = arena_for_runs();
-    struct both_runs runs = run_both(&arena, sink_words(&record->sink));
+    struct both_runs runs =
+        run_both(&arena, VERSION_1, sink_words(&record->sink));
     enum agreement agreement = demand3_agreement(&arena, &runs);
     bool holds = runs.refusal.number == REFUSED_NOTHING;
 

@@ -32,7 +32,8 @@ static void try_dead_among_many(struct tally *tally)
         start_record(&record);
         put_many_arms(&record.sink, it->arms);
         expect(tally,
-               every_call_refuses(sink_words(&record.sink), it->refusal),
+               every_call_refuses(VERSION_1, sink_words(&record.sink),
+                                  it->refusal),
                "dead arms", it->claim);
     }
 }
@@ -46,7 +47,7 @@ static void try_living_among_many(struct tally *tally)
 
     start_record(&record);
     put_many_arms(&record.sink, arms);
-    struct reply reply = measure_image(sink_words(&record.sink));
+    struct reply reply = measure_image(VERSION_1, sink_words(&record.sink));
     expect(tally, reply.count == image_words, "dead arms",
            "32 arms of five tags are accepted");
 }
@@ -61,7 +62,7 @@ static bool second_is_dead_if_equal(struct arm first, struct arm second)
 
     start_record(&record);
     put_two_arms(&record.sink, first, second);
-    return is_refusal(check_rule(sink_words(&record.sink)),
+    return is_refusal(check_rule(VERSION_1, sink_words(&record.sink)),
                       equal ? dead : nothing);
 }
 
@@ -103,9 +104,9 @@ static void try_beginnings(struct tally *tally)
         const struct refusal missing = { REFUSED_WORD_MISSING,
                                          beginning.count };
         bool is_short = beginning.count <= it->refusal.place;
+        struct refusal refusal = is_short ? missing : it->refusal;
 
-        holds = holds && every_call_refuses(beginning, is_short ? missing
-                                                                : it->refusal);
+        holds = holds && every_call_refuses(VERSION_1, beginning, refusal);
     }
     expect(tally, holds, "dead arms", "every beginning of a rule");
 }
@@ -123,7 +124,8 @@ static void try_at_depth(struct tally *tally, size_t second_tag,
     record.sink.count -= FILLER_WORDS_LEAST; /* a function for the leaf */
     put_kind(&record.sink, KIND_FUNCTION, 1);
     put_leaf(&record.sink);
-    expect(tally, every_call_refuses(sink_words(&record.sink), refusal),
+    expect(tally,
+           every_call_refuses(VERSION_1, sink_words(&record.sink), refusal),
            "dead arms", claim);
 }
 

@@ -14,10 +14,11 @@ static void try_unpacking(struct tally *tally, size_t capacity)
     struct word_list rule = accepted_cases[1].rule;
 
     lend_words(words);
-    struct reply unpacked =
+    struct unpacking unpacked =
         unpack_file(FORM_RULE, case_b_file, words, capacity);
-    struct word_list found = { words, unpacked.count };
+    struct word_list found = { words, unpacked.reply.count };
     expect(tally, words_are_equal(found, rule), "case B", "unpacked words");
+    expect(tally, unpacked.version == VERSION_1, "case B", "its version");
     expect(tally, untouched_from(words, rule.count), "case B",
            "words past the rule are unchanged");
 }
@@ -28,7 +29,8 @@ static void try_packing(struct tally *tally)
     struct word_list rule = accepted_cases[1].rule;
 
     memset(bytes, UNTOUCHED_BYTE, sizeof bytes);
-    struct reply packed = pack_file(FORM_RULE, rule, bytes, sizeof bytes);
+    struct reply packed =
+        pack_file(FORM_RULE, VERSION_1, rule, bytes, sizeof bytes);
     expect(tally,
            packed.count == case_b_file.count &&
                memcmp(bytes, case_b_file.bytes, packed.count) == 0,
@@ -59,8 +61,23 @@ static const struct refused_file refused_files[] = {
     { "mark in lower case", FORM_RULE, "lrs\1\0\1\0\0\6", 9, 8, REFUSED_MARK },
     { "mark before version", FORM_RULE, "LRI\2\0\1\0\0\6", 9, 8,
       REFUSED_MARK },
+    { "mark before version 3", FORM_RULE, "LRI\3\0\1\0\0\6", 9, 8,
+      REFUSED_MARK },
     { "version 0", FORM_RULE, "LRS\0\0\1\0\0\6", 9, 8, REFUSED_VERSION },
-    { "version 2", FORM_RULE, "LRS\2\0\1\0\0\6", 9, 8, REFUSED_VERSION },
+    { "version 3", FORM_RULE, "LRS\3\0\1\0\0\6", 9, 8, REFUSED_VERSION },
+    { "version 3 of an image", FORM_IMAGE, "LRI\3\0\1\0\0\6", 9, 8,
+      REFUSED_VERSION },
+    { "version 256", FORM_RULE, "LRS\0\1\1\0\0\6", 9, 8, REFUSED_VERSION },
+    { "version 258", FORM_RULE, "LRS\2\1\1\0\0\6", 9, 8, REFUSED_VERSION },
+    { "version 512", FORM_RULE, "LRS\0\2\1\0\0\6", 9, 8, REFUSED_VERSION },
+    { "version 0, no words, no output", FORM_RULE, "LRS\0\0\0\0", 7, 0,
+      REFUSED_VERSION },
+    { "version 2, wrong length", FORM_RULE, "LRS\2\0\1\0\0", 8, 8,
+      REFUSED_FILE_LENGTH },
+    { "version 2, no words, no output", FORM_RULE, "LRS\2\0\0\0", 7, 0,
+      REFUSED_NO_WORDS },
+    { "version 2, output one word short", FORM_RULE,
+      "LRS\2\0\2\0\0\6\0\0", 11, 1, REFUSED_OUTPUT_SHORT },
     { "version 257, wrong length", FORM_RULE, "LRS\1\1\1\0\0", 8, 8,
       REFUSED_VERSION },
     { "one byte short", FORM_RULE, "LRS\1\0\1\0\0", 8, 8,
@@ -89,16 +106,18 @@ static void try_refused_files(struct tally *tally)
         uint16_t words[LENT_WORDS];
 
         lend_words(words);
-        struct reply reply = unpack_file(it->form, file, words, it->capacity);
+        struct unpacking unpacked =
+            unpack_file(it->form, file, words, it->capacity);
         expect(tally,
-               is_placeless(reply.refusal, it->number) &&
-                   untouched_from(words, 0),
+               is_placeless(unpacked.reply.refusal, it->number) &&
+                   unpacked.version == 0 && untouched_from(words, 0),
                "files", it->claim);
     }
 }
 
 /* The longest file of a form comes back whole; one word more is refused. */
-static void try_longest(struct tally *tally, enum file_form form, size_t most)
+static void try_longest(struct tally *tally, enum file_form form,
+                        uint16_t version, size_t most)
 {
     size_t room = FILE_HEADER_BYTES + BYTES_OF_A_WORD * (most + 1);
     uint8_t *bytes = calloc(room, sizeof bytes[0]);
@@ -110,20 +129,22 @@ static void try_longest(struct tally *tally, enum file_form form, size_t most)
     for (size_t i = 0; i < most; i++)
         words[i] = (uint16_t)(i * i);
     expect(tally,
-           is_placeless(pack_file(form, longer, bytes, room).refusal,
+           is_placeless(pack_file(form, version, longer, bytes, room).refusal,
                         REFUSED_TOO_MANY_WORDS),
            "files", "packing one word too many");
-    struct reply packed = pack_file(form, longest, bytes, room);
+    struct reply packed = pack_file(form, version, longest, bytes, room);
     struct byte_list file = { bytes, packed.count };
-    struct word_list found = { back,
-                               unpack_file(form, file, back, most).count };
-    expect(tally, words_are_equal(found, longest), "files", "longest file");
+    struct unpacking unpacked = unpack_file(form, file, back, most);
+    struct word_list found = { back, unpacked.reply.count };
+    expect(tally,
+           words_are_equal(found, longest) && unpacked.version == version,
+           "files", "longest file");
     bytes[COUNT_LOW_BYTE]++; /* the count's low byte is 0 for both limits */
     file.count += BYTES_OF_A_WORD;
     expect(tally,
-           is_placeless(unpack_file(form, file, back, most + 1).refusal,
+           is_placeless(unpack_file(form, file, back, most + 1).reply.refusal,
                         REFUSED_TOO_MANY_WORDS) &&
-               is_placeless(unpack_file(form, file, back, most).refusal,
+               is_placeless(unpack_file(form, file, back, most).reply.refusal,
                             REFUSED_TOO_MANY_WORDS),
            "files", "unpacking one word too many, whatever the room");
     free(bytes);
@@ -139,12 +160,14 @@ static void try_packing_refusals(struct tally *tally)
 
     memset(bytes, UNTOUCHED_BYTE, sizeof bytes);
     expect(tally,
-           is_placeless(pack_file(FORM_RULE, nothing, bytes, 0).refusal,
-                        REFUSED_NO_WORDS),
+           is_placeless(
+               pack_file(FORM_RULE, VERSION_1, nothing, bytes, 0).refusal,
+               REFUSED_NO_WORDS),
            "files", "packing no words");
     expect(tally,
            is_placeless(
-               pack_file(FORM_RULE, rule, bytes, case_b_file.count - 1)
+               pack_file(FORM_RULE, VERSION_1, rule, bytes,
+                         case_b_file.count - 1)
                    .refusal,
                REFUSED_OUTPUT_SHORT),
            "files", "packing into too few bytes");
@@ -161,9 +184,68 @@ static void try_most_words(struct tally *tally)
 
     expect(tally,
            is_placeless(
-               pack_file(FORM_IMAGE, many, bytes, sizeof bytes).refusal,
+               pack_file(FORM_IMAGE, VERSION_1, many, bytes, sizeof bytes)
+                   .refusal,
                REFUSED_TOO_MANY_WORDS),
            "files", "packing more words than a count can say");
+}
+
+/* "11 [...] tested [...] before 1 outside unpacking", and so before 2 and 9 */
+static void try_packing_versions(struct tally *tally)
+{
+    static const uint16_t unknown[] = { 0, 3, 255, 256, 257, 258, UINT16_MAX };
+    static const uint16_t many[IMAGE_WORDS_MOST + 1];
+    const struct word_list lists[] = { { NULL, 0 },
+                                       accepted_cases[1].rule,
+                                       { many, IMAGE_WORDS_MOST + 1 } };
+    uint8_t bytes[LENT_BYTES];
+    bool refused = true;
+
+    memset(bytes, UNTOUCHED_BYTE, sizeof bytes);
+    for (size_t i = 0; i < sizeof unknown / sizeof unknown[0]; i++)
+        for (size_t j = 0; j < sizeof lists / sizeof lists[0]; j++)
+            for (size_t room = 0; room <= LENT_BYTES; room += LENT_BYTES)
+                refused =
+                    refused &&
+                    is_placeless(pack_file(FORM_IMAGE, unknown[i], lists[j],
+                                           bytes, room)
+                                     .refusal,
+                                 REFUSED_VERSION) &&
+                    bytes[0] == UNTOUCHED_BYTE;
+    expect(tally, refused, "files", "packing unknown versions, whatever else");
+}
+
+/* Kinds 10 and 11 in both versions: "does not read terms". */
+static void try_kinds_unread(struct tally *tally, uint16_t version,
+                             struct byte_list expected)
+{
+    const struct word_list words = WORD_LIST(0x0A00, 0x0B00, 0xFFFF);
+    uint8_t bytes[LENT_BYTES];
+    uint16_t back[LENT_WORDS];
+
+    struct reply packed =
+        pack_file(FORM_RULE, version, words, bytes, sizeof bytes);
+    expect(tally,
+           packed.count == expected.count &&
+               memcmp(bytes, expected.bytes, packed.count) == 0,
+           "files", "packed with the version told, terms unread");
+    struct unpacking unpacked =
+        unpack_file(FORM_RULE, expected, back, LENT_WORDS);
+    struct word_list found = { back, unpacked.reply.count };
+    expect(tally,
+           words_are_equal(found, words) && unpacked.version == version,
+           "files", "unpacked with the version read, terms unread");
+}
+
+static void try_versions(struct tally *tally)
+{
+    static const uint8_t first[] = "LRS\1\0\3\0\0\12\0\13\377\377";
+    static const uint8_t second[] = "LRS\2\0\3\0\0\12\0\13\377\377";
+    const size_t count = sizeof first - 1; /* without the string's end */
+
+    try_kinds_unread(tally, VERSION_1, (struct byte_list){ first, count });
+    try_kinds_unread(tally, VERSION_2, (struct byte_list){ second, count });
+    try_packing_versions(tally);
 }
 
 void try_files(struct tally *tally)
@@ -171,7 +253,10 @@ void try_files(struct tally *tally)
     try_packing(tally);
     try_packing_refusals(tally);
     try_refused_files(tally);
-    try_longest(tally, FORM_RULE, RULE_WORDS_MOST);
-    try_longest(tally, FORM_IMAGE, IMAGE_WORDS_MOST);
+    try_versions(tally);
+    try_longest(tally, FORM_RULE, VERSION_1, RULE_WORDS_MOST);
+    try_longest(tally, FORM_RULE, VERSION_2, RULE_WORDS_MOST);
+    try_longest(tally, FORM_IMAGE, VERSION_1, IMAGE_WORDS_MOST);
+    try_longest(tally, FORM_IMAGE, VERSION_2, IMAGE_WORDS_MOST);
     try_most_words(tally);
 }

@@ -39,14 +39,16 @@ bool untouched_from(const uint16_t *words, size_t first)
     return true;
 }
 
-bool every_call_refuses(struct word_list rule, struct refusal refusal)
+bool every_call_refuses(uint16_t version, struct word_list rule,
+                        struct refusal refusal)
 {
     uint16_t output[LENT_WORDS];
 
     lend_words(output);
-    return is_refusal(check_rule(rule), refusal) &&
-           is_refusal(measure_image(rule).refusal, refusal) &&
-           is_refusal(write_image(rule, output, LENT_WORDS).refusal,
-                      refusal) &&
+    return is_refusal(check_rule(version, rule), refusal) &&
+           is_refusal(measure_image(version, rule).refusal, refusal) &&
+           is_refusal(
+               write_image(version, rule, output, LENT_WORDS).refusal,
+               refusal) &&
            untouched_from(output, 0);
 }

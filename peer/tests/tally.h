@@ -32,6 +32,7 @@ void lend_words(uint16_t *words);
 bool untouched_from(const uint16_t *words, size_t first);
 
 /* The checking, the measuring and the writing call. */
-bool every_call_refuses(struct word_list rule, struct refusal refusal);
+bool every_call_refuses(uint16_t version, struct word_list rule,
+                        struct refusal refusal);
 
 #endif

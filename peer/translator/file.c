@@ -7,7 +7,6 @@ enum {
     MARK_BYTES = 3,
     VERSION_PLACE = 3,
     COUNT_PLACE = 5,
-    VERSION = 1,
     BYTE_BITS = 8,
     BYTE_MOST = 255
 };
@@ -39,11 +38,6 @@ static struct reply refused(enum refusal_number number)
     return (struct reply){ { number, 0 }, 0 };
 }
 
-static struct reply done(size_t count)
-{
-    return (struct reply){ { REFUSED_NOTHING, 0 }, count };
-}
-
 static enum refusal_number test_lengths(enum file_form form, size_t count,
                                         size_t needed, size_t capacity)
 {
@@ -56,23 +50,33 @@ static enum refusal_number test_lengths(enum file_form form, size_t count,
     return REFUSED_NOTHING;
 }
 
-/* "Packing tests 1, 2, 9." */
-struct reply pack_file(enum file_form form, struct word_list words,
-                       uint8_t *output, size_t capacity)
+/* "11 [...] before 1 outside unpacking", then "1, 2, 9" */
+static enum refusal_number test_packing(enum file_form form, uint16_t version,
+                                        size_t count, size_t length,
+                                        size_t capacity)
+{
+    if (!version_is_known(version))
+        return REFUSED_VERSION;
+    return test_lengths(form, count, length, capacity);
+}
+
+struct reply pack_file(enum file_form form, uint16_t version,
+                       struct word_list words, uint8_t *output,
+                       size_t capacity)
 {
     size_t length = FILE_HEADER_BYTES + BYTES_OF_A_WORD * words.count;
     enum refusal_number number =
-        test_lengths(form, words.count, length, capacity);
+        test_packing(form, version, words.count, length, capacity);
 
     if (number != REFUSED_NOTHING)
         return refused(number);
     memcpy(output, form_table[form].mark, MARK_BYTES);
-    set_number(output + VERSION_PLACE, VERSION);
+    set_number(output + VERSION_PLACE, version);
     set_number(output + COUNT_PLACE, words.count);
     for (size_t i = 0; i < words.count; i++)
         set_number(output + FILE_HEADER_BYTES + BYTES_OF_A_WORD * i,
                    words.words[i]);
-    return done(length);
+    return (struct reply){ { REFUSED_NOTHING, 0 }, length };
 }
 
 static enum refusal_number test_header(enum file_form form,
@@ -81,7 +85,7 @@ static enum refusal_number test_header(enum file_form form,
     if (file.count < FILE_HEADER_BYTES ||
         memcmp(file.bytes, form_table[form].mark, MARK_BYTES) != 0)
         return REFUSED_MARK;
-    if (get_number(file.bytes + VERSION_PLACE) != VERSION)
+    if (!version_is_known(get_number(file.bytes + VERSION_PLACE)))
         return REFUSED_VERSION;
     size_t count = get_number(file.bytes + COUNT_PLACE);
     if (file.count != FILE_HEADER_BYTES + BYTES_OF_A_WORD * count)
@@ -90,19 +94,20 @@ static enum refusal_number test_header(enum file_form form,
 }
 
 /* "Unpacking tests 10, 11, 12, 1, 2, 9 and does not read terms." */
-struct reply unpack_file(enum file_form form, struct byte_list file,
-                         uint16_t *output, size_t capacity)
+struct unpacking unpack_file(enum file_form form, struct byte_list file,
+                             uint16_t *output, size_t capacity)
 {
     enum refusal_number number = test_header(form, file);
 
     if (number != REFUSED_NOTHING)
-        return refused(number);
+        return (struct unpacking){ refused(number), 0 };
     size_t count = get_number(file.bytes + COUNT_PLACE);
     number = test_lengths(form, count, count, capacity);
     if (number != REFUSED_NOTHING)
-        return refused(number);
+        return (struct unpacking){ refused(number), 0 };
     for (size_t i = 0; i < count; i++)
         output[i] = get_number(file.bytes + FILE_HEADER_BYTES +
                                BYTES_OF_A_WORD * i);
-    return done(count);
+    return (struct unpacking){ { { REFUSED_NOTHING, 0 }, count },
+                               get_number(file.bytes + VERSION_PLACE) };
 }

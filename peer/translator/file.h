@@ -18,11 +18,18 @@ struct byte_list {
 };
 
 /* The reply's count is that of the bytes written. */
-struct reply pack_file(enum file_form form, struct word_list words,
-                       uint8_t *output, size_t capacity);
+struct reply pack_file(enum file_form form, uint16_t version,
+                       struct word_list words, uint8_t *output,
+                       size_t capacity);
 
-/* The reply's count is that of the words given; terms are not read. */
-struct reply unpack_file(enum file_form form, struct byte_list file,
-                         uint16_t *output, size_t capacity);
+/* "Files carry the version; unpacking reports it." */
+struct unpacking {
+    struct reply reply; /* its count is that of the words given */
+    uint16_t version;   /* 0 when refused */
+};
+
+/* Terms are not read, so their kinds may be of the other version. */
+struct unpacking unpack_file(enum file_form form, struct byte_list file,
+                             uint16_t *output, size_t capacity);
 
 #endif

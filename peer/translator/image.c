@@ -64,8 +64,7 @@ static void put_carried_function(struct word_sink *sink,
 static void put_carried_constructor(struct word_sink *sink,
                                     const struct term *constructor)
 {
-    put_head(sink, KIND_CONSTRUCTOR, constructor->low);
-    put_word(sink, constructor->second);
+    put_own_words(sink, constructor);
     for (size_t i = 0; i < constructor->part_count; i++)
         put_carried_form(sink, constructor->parts[i]);
 }
@@ -78,6 +77,8 @@ void put_carried_form(struct word_sink *sink, const struct term *atom)
         put_carried_function(sink, atom);
     else if (atom->kind == KIND_CONSTRUCTOR)
         put_carried_constructor(sink, atom);
+    else if (atom->kind == KIND_NUMBER) /* as a constructor without parts */
+        put_own_words(sink, atom);
     else /* "A variable's is itself." */
         put_word(sink, source_word((struct source_index){ atom->low }));
 }
@@ -137,26 +138,24 @@ static void put_passing_call(struct word_sink *sink, const struct term *call)
 
 /*
  * "ending in 0401, k_n, the constructor's two words, then k_(n-1) down to
- * k_0"
+ * k_0". An operation "is translated like a built constructor"; it has its head
+ * where the constructor has two words.
  */
-static void put_passing_constructor(struct word_sink *sink,
-                                    const struct term *constructor)
+static void put_passing_built(struct word_sink *sink, const struct term *built)
 {
-    size_t arguments = constructor->second;
+    size_t parts = built->part_count;
 
-    put_chain_up_to_ending(sink, constructor);
+    put_chain_up_to_ending(sink, built);
     put_added_call(sink);
-    put_continuation(sink, arguments);
-    put_head(sink, KIND_CONSTRUCTOR, constructor->low);
-    put_word(sink, constructor->second);
-    put_continuations_down(sink, arguments);
+    put_continuation(sink, parts);
+    put_own_words(sink, built);
+    put_continuations_down(sink, parts);
 }
 
 /* "each with its two words, 0401, its body's passing form, 0901" */
 static void put_arm(struct word_sink *sink, const struct term *arm)
 {
-    put_head(sink, KIND_ARM, arm->low);
-    put_word(sink, arm->second);
+    put_own_words(sink, arm);
     put_added_call(sink);
     put_passing_form(sink, arm->parts[0]);
     put_continuation(sink, K_NEXT_OUT);
@@ -187,8 +186,8 @@ void put_passing_form(struct word_sink *sink, const struct term *term)
         put_passing_let(sink, term);
     else if (term->kind == KIND_CALL)
         put_passing_call(sink, term);
-    else if (term->kind == KIND_CONSTRUCTOR)
-        put_passing_constructor(sink, term);
+    else if (term->kind == KIND_CONSTRUCTOR || term->kind == KIND_OPERATION)
+        put_passing_built(sink, term);
     else
         put_passing_match(sink, term);
 }
@@ -210,15 +209,15 @@ static size_t image_length(const struct term *rule)
     return sink.count;
 }
 
-struct refusal check_rule(struct word_list rule)
+struct refusal check_rule(uint16_t version, struct word_list rule)
 {
-    return measure_image(rule).refusal;
+    return measure_image(version, rule).refusal;
 }
 
-struct reply measure_image(struct word_list rule)
+struct reply measure_image(uint16_t version, struct word_list rule)
 {
     struct arena arena = arena_without_limit();
-    struct reading reading = read_rule(&arena, rule);
+    struct reading reading = read_rule(&arena, version, rule);
     struct reply reply = { reading.refusal, 0 };
 
     if (reading.term != NULL)
@@ -240,11 +239,11 @@ static struct reply write_within(const struct term *rule, uint16_t *output,
     return (struct reply){ { REFUSED_NOTHING, 0 }, length };
 }
 
-struct reply write_image(struct word_list rule, uint16_t *output,
-                         size_t capacity)
+struct reply write_image(uint16_t version, struct word_list rule,
+                         uint16_t *output, size_t capacity)
 {
     struct arena arena = arena_without_limit();
-    struct reading reading = read_rule(&arena, rule);
+    struct reading reading = read_rule(&arena, version, rule);
     struct reply reply = { reading.refusal, 0 };
 
     if (reading.term != NULL)

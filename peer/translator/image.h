@@ -18,11 +18,12 @@ void put_carried_form(struct word_sink *sink, const struct term *atom);
 void put_passing_form(struct word_sink *sink, const struct term *term);
 void put_image(struct word_sink *sink, const struct term *rule);
 
-struct refusal check_rule(struct word_list rule);
-struct reply measure_image(struct word_list rule);
+/* "every call on words is told" the version. */
+struct refusal check_rule(uint16_t version, struct word_list rule);
+struct reply measure_image(uint16_t version, struct word_list rule);
 
 /* A refusal leaves the output unchanged, success every word past the image. */
-struct reply write_image(struct word_list rule, uint16_t *output,
-                         size_t capacity);
+struct reply write_image(uint16_t version, struct word_list rule,
+                         uint16_t *output, size_t capacity);
 
 #endif

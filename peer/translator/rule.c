@@ -18,6 +18,7 @@ struct reader {
     struct word_list words;
     size_t next;
     enum layout layout;
+    uint16_t version;
     size_t depth_most;
     struct refusal refusal;
 };
@@ -70,7 +71,7 @@ static bool test_term_head(struct reader *reader, size_t depth,
     if (depth > reader->depth_most)
         return refuse(reader, REFUSED_DEPTH);
     *head = next_head(reader);
-    if (!kind_stands_as_term(reader->layout, head->kind))
+    if (!kind_stands_as_term(reader->layout, reader->version, head->kind))
         return refuse(reader, REFUSED_KIND);
     if (!low_is_in_range(reader->layout, head->kind, head->low))
         return refuse(reader, REFUSED_RANGE);
@@ -118,6 +119,22 @@ static bool test_term_second(struct reader *reader, struct head head,
     return true;
 }
 
+/* "a number's two words are tested for 3 only"; a head without them passes. */
+static bool test_number(struct reader *reader, struct head head,
+                        uint32_t *number)
+{
+    *number = 0;
+    if (!kind_has_number(head.kind))
+        return true;
+    for (size_t i = 0; i < NUMBER_WORDS; i++) {
+        if (no_word_is_left(reader))
+            return refuse(reader, REFUSED_WORD_MISSING);
+        *number = *number << WORD_BITS | reader->words.words[reader->next];
+        reader->next++;
+    }
+    return true;
+}
+
 /* "a second arm with the same tag and arity can never be taken" */
 static bool is_dead(const struct term *match, size_t part, struct head head,
                     uint16_t second)
@@ -152,8 +169,9 @@ static const struct term *read_arm(struct reader *reader,
     if (!test_arm_head(reader, &head) ||
         !test_arm_second(reader, match, part, head, &second))
         return NULL;
-    struct term *arm =
-        term_with_parts(reader->arena, head.kind, head.low, second);
+    struct term *arm = term_with_parts(
+        reader->arena,
+        (struct term){ .kind = head.kind, .low = head.low, .second = second });
     scope = scope_of_part(reader->layout, arm, 0, scope);
     arm->parts[0] = read_term(reader, match_depth + 1, scope);
     return arm->parts[0] == NULL ? NULL : arm;
@@ -181,12 +199,17 @@ static const struct term *read_term(struct reader *reader, size_t depth,
 {
     struct head head;
     uint16_t second;
+    uint32_t number;
 
     if (!test_term_head(reader, depth, scope, &head) ||
-        !test_term_second(reader, head, &second))
+        !test_term_second(reader, head, &second) ||
+        !test_number(reader, head, &number))
         return NULL;
     struct term *term =
-        term_with_parts(reader->arena, head.kind, head.low, second);
+        term_with_parts(reader->arena, (struct term){ .kind = head.kind,
+                                                      .low = head.low,
+                                                      .second = second,
+                                                      .number = number });
     if (!read_parts(reader, term, depth, scope))
         return NULL;
     settle_atom(term);
@@ -198,12 +221,17 @@ static struct reading refused(enum refusal_number number)
     return (struct reading){ { number, 0 }, NULL };
 }
 
-/* "Lengths first: 1, then 2. [...] After the rule's last word: 8." */
+/*
+ * "Lengths first: 1, then 2. [...] After the rule's last word: 8." And 11 is
+ * "tested [...] before 1 outside unpacking".
+ */
 static struct reading read_whole(struct reader *reader, size_t words_most)
 {
     const struct scope nothing_bound = { 0, 0 };
     const size_t whole_depth = 1;
 
+    if (!version_is_known(reader->version))
+        return refused(REFUSED_VERSION);
     if (reader->words.count == 0)
         return refused(REFUSED_NO_WORDS);
     if (reader->words.count > words_most)
@@ -216,21 +244,25 @@ static struct reading read_whole(struct reader *reader, size_t words_most)
     return (struct reading){ reader->refusal, term };
 }
 
-struct reading read_rule(struct arena *arena, struct word_list words)
+struct reading read_rule(struct arena *arena, uint16_t version,
+                         struct word_list words)
 {
     struct reader reader = { .arena = arena,
                              .words = words,
                              .layout = LAYOUT_RULE,
+                             .version = version,
                              .depth_most = RULE_DEPTH_MOST };
 
     return read_whole(&reader, RULE_WORDS_MOST);
 }
 
-struct reading read_image(struct arena *arena, struct word_list words)
+struct reading read_image(struct arena *arena, uint16_t version,
+                          struct word_list words)
 {
     struct reader reader = { .arena = arena,
                              .words = words,
                              .layout = LAYOUT_IMAGE,
+                             .version = version,
                              .depth_most = IMAGE_DEPTH_MOST };
 
     return read_whole(&reader, IMAGE_WORDS_MOST);

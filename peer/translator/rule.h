@@ -51,13 +51,15 @@ struct reading {
     const struct term *term; /* NULL when refused */
 };
 
-struct reading read_rule(struct arena *arena, struct word_list words);
+struct reading read_rule(struct arena *arena, uint16_t version,
+                         struct word_list words);
 
 /*
  * The paper does not read images; the evaluator does. The same tests are made
  * with the image's ranges and both numberings, and a depth that no image of a
  * rule reaches.
  */
-struct reading read_image(struct arena *arena, struct word_list words);
+struct reading read_image(struct arena *arena, uint16_t version,
+                          struct word_list words);
 
 #endif

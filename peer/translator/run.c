@@ -70,6 +70,51 @@ static bool build_constructor(struct run *run, struct task *task)
     return false;
 }
 
+/* "giving tag 1 if so, else tag 0, without arguments" */
+static const struct value *less_value(struct run *run, bool is_less)
+{
+    struct term *answer = term_with_parts(
+        run->arena,
+        (struct term){ .kind = KIND_CONSTRUCTOR,
+                       .low = is_less ? TAG_LESS : TAG_NOT_LESS });
+
+    settle_atom(answer);
+    return constructor_value(run->arena, answer, NULL);
+}
+
+/* "0 adds, 1 subtracts, both modulo 2 to the 32" */
+static const struct value *operation_value(struct run *run, uint8_t operation,
+                                           uint32_t first, uint32_t second)
+{
+    switch (operation) {
+    case OPERATION_ADD:
+        return number_value(run->arena, first + second);
+    case OPERATION_SUBTRACT:
+        return number_value(run->arena, first - second);
+    default:
+        return less_value(run, first < second);
+    }
+}
+
+/*
+ * "An operation on anything but numbers has no value"; as for a call, that is
+ * seen after both parts have come to values. "counts as one in demand 3": as a
+ * constructor built.
+ */
+static bool operate(struct run *run, struct task *task)
+{
+    const struct value **parts = come_to_values(run, task);
+
+    if (parts == NULL || parts[0]->term->kind != KIND_NUMBER ||
+        parts[1]->term->kind != KIND_NUMBER)
+        return false;
+    run->counts.built++;
+    task->value =
+        operation_value(run, task->term->low, parts[0]->term->number,
+                        parts[1]->term->number);
+    return false;
+}
+
 /* "Let: the bound term's value goes in for x_0 of the body." */
 static bool enter_let(struct run *run, struct task *task)
 {
@@ -87,7 +132,8 @@ static bool enter_let(struct run *run, struct task *task)
 /* "a function with exactly that many arguments" */
 static bool call_fits(const struct value *function, const struct term *call)
 {
-    return function->term->kind != KIND_CONSTRUCTOR &&
+    return (function->term->kind == KIND_FUNCTION ||
+            function->term->kind == KIND_RECURSIVE) &&
            function->term->low == call->low;
 }
 
@@ -171,6 +217,8 @@ static bool advance(struct run *run, struct task *task)
     switch (task->term->kind) {
     case KIND_CONSTRUCTOR:
         return build_constructor(run, task);
+    case KIND_OPERATION:
+        return operate(run, task);
     case KIND_LET:
         return enter_let(run, task);
     case KIND_CALL:

@@ -14,7 +14,7 @@ struct counts {
     size_t calls;   /* in an image: applications */
     size_t lets;
     size_t matches;
-    size_t built;   /* constructors built from unfinished parts */
+    size_t built;   /* constructors, from unfinished parts, and operations */
 };
 
 /* Past these bounds a run gives up; so does one that spends its arena. */

@@ -4,11 +4,15 @@ enum { LAYOUTS = 2 };
 
 enum parts_named { NAMED_NOWHERE, NAMED_BY_LOW, NAMED_BY_SECOND };
 
+/* What follows a head before any part. */
+enum words_following { NOTHING_FOLLOWS, SECOND_FOLLOWS, NUMBER_FOLLOWS };
+
 struct kind_row {
+    uint16_t since; /* the first version that has it */
     bool stands_as_term[LAYOUTS];
     uint8_t lowest;
     uint8_t highest[LAYOUTS];
-    bool has_second;
+    enum words_following following;
     size_t fixed_parts;
     enum parts_named further_parts;
 };
@@ -18,27 +22,36 @@ struct kind_row {
  * reader." Each pair is for the rule, then for the image.
  */
 static const struct kind_row kind_table[] = {
-    [KIND_VARIABLE] = { { true, true }, 0, { LOW_BYTE_MOST, LOW_BYTE_MOST },
-                        false, 0, NAMED_NOWHERE },
-    [KIND_FUNCTION] = { { true, true }, 1,
+    [KIND_VARIABLE] = { VERSION_1, { true, true }, 0,
+                        { LOW_BYTE_MOST, LOW_BYTE_MOST },
+                        NOTHING_FOLLOWS, 0, NAMED_NOWHERE },
+    [KIND_FUNCTION] = { VERSION_1, { true, true }, 1,
                         { ARGUMENTS_MOST, IMAGE_ARGUMENTS_MOST },
-                        false, 1, NAMED_NOWHERE },
-    [KIND_RECURSIVE] = { { true, true }, 1,
+                        NOTHING_FOLLOWS, 1, NAMED_NOWHERE },
+    [KIND_RECURSIVE] = { VERSION_1, { true, true }, 1,
                          { ARGUMENTS_MOST, IMAGE_ARGUMENTS_MOST },
-                         false, 1, NAMED_NOWHERE },
-    [KIND_CALL] = { { true, true }, 1,
+                         NOTHING_FOLLOWS, 1, NAMED_NOWHERE },
+    [KIND_CALL] = { VERSION_1, { true, true }, 1,
                     { ARGUMENTS_MOST, IMAGE_ARGUMENTS_MOST },
-                    false, 1, NAMED_BY_LOW },
-    [KIND_LET] = { { true, true }, 0, { 0, 0 }, false, 2, NAMED_NOWHERE },
-    [KIND_CONSTRUCTOR] = { { true, true }, 0, { LOW_BYTE_MOST, LOW_BYTE_MOST },
-                           true, 0, NAMED_BY_SECOND },
-    [KIND_MATCH] = { { true, true }, 1, { ARMS_MOST, ARMS_MOST },
-                     false, 1, NAMED_BY_LOW },
-    [KIND_ARM] = { { false, false }, 0, { LOW_BYTE_MOST, LOW_BYTE_MOST },
-                   true, 1, NAMED_NOWHERE },
-    [KIND_CONTINUATION] = { { false, true }, 0,
+                    NOTHING_FOLLOWS, 1, NAMED_BY_LOW },
+    [KIND_LET] = { VERSION_1, { true, true }, 0, { 0, 0 },
+                   NOTHING_FOLLOWS, 2, NAMED_NOWHERE },
+    [KIND_CONSTRUCTOR] = { VERSION_1, { true, true }, 0,
+                           { LOW_BYTE_MOST, LOW_BYTE_MOST },
+                           SECOND_FOLLOWS, 0, NAMED_BY_SECOND },
+    [KIND_MATCH] = { VERSION_1, { true, true }, 1, { ARMS_MOST, ARMS_MOST },
+                     NOTHING_FOLLOWS, 1, NAMED_BY_LOW },
+    [KIND_ARM] = { VERSION_1, { false, false }, 0,
+                   { LOW_BYTE_MOST, LOW_BYTE_MOST },
+                   SECOND_FOLLOWS, 1, NAMED_NOWHERE },
+    [KIND_CONTINUATION] = { VERSION_1, { false, true }, 0,
                             { LOW_BYTE_MOST, LOW_BYTE_MOST },
-                            false, 0, NAMED_NOWHERE },
+                            NOTHING_FOLLOWS, 0, NAMED_NOWHERE },
+    [KIND_NUMBER] = { VERSION_2, { true, true }, 0, { 0, 0 },
+                      NUMBER_FOLLOWS, 0, NAMED_NOWHERE },
+    [KIND_OPERATION] = { VERSION_2, { true, true }, OPERATION_ADD,
+                         { OPERATION_LESS, OPERATION_LESS },
+                         NOTHING_FOLLOWS, OPERATION_PARTS, NAMED_NOWHERE },
 };
 
 uint16_t head_word(enum kind kind, uint8_t low)
@@ -66,9 +79,16 @@ uint8_t word_low(uint16_t word)
     return (uint8_t)(word & LOW_BYTE_MOST);
 }
 
-bool kind_stands_as_term(enum layout layout, uint8_t kind)
+bool version_is_known(uint16_t version)
+{
+    return version == VERSION_1 || version == VERSION_2;
+}
+
+/* "4 allows 10 and 11 in version 2 only" */
+bool kind_stands_as_term(enum layout layout, uint16_t version, uint8_t kind)
 {
     return kind < sizeof kind_table / sizeof kind_table[0] &&
+           kind_table[kind].since <= version &&
            kind_table[kind].stands_as_term[layout];
 }
 
@@ -81,7 +101,12 @@ bool low_is_in_range(enum layout layout, uint8_t kind, uint8_t low)
 
 bool kind_has_second_word(uint8_t kind)
 {
-    return kind_table[kind].has_second;
+    return kind_table[kind].following == SECOND_FOLLOWS;
+}
+
+bool kind_has_number(uint8_t kind)
+{
+    return kind_table[kind].following == NUMBER_FOLLOWS;
 }
 
 bool second_is_in_range(uint16_t second)
@@ -104,12 +129,14 @@ static size_t part_count(const struct term *term)
     return row->fixed_parts;
 }
 
-struct term *term_with_parts(struct arena *arena, uint8_t kind, uint8_t low,
-                             uint16_t second)
+struct term *term_with_parts(struct arena *arena, struct term model)
 {
     struct term *term = arena_take(arena, sizeof *term);
 
-    *term = (struct term){ .kind = kind, .low = low, .second = second };
+    *term = (struct term){ .kind = model.kind,
+                           .low = model.low,
+                           .second = model.second,
+                           .number = model.number };
     term->part_count = part_count(term);
     term->parts = arena_take(arena, term->part_count * sizeof term->parts[0]);
     return term;
@@ -117,7 +144,8 @@ struct term *term_with_parts(struct arena *arena, uint8_t kind, uint8_t low,
 
 /*
  * "An atom is a variable, a function, a recursive function, or a constructor
- * whose arguments are all atoms."
+ * whose arguments are all atoms." And: "A number is an atom. An operation
+ * never is."
  */
 void settle_atom(struct term *term)
 {
@@ -126,6 +154,7 @@ void settle_atom(struct term *term)
     case KIND_CONTINUATION:
     case KIND_FUNCTION:
     case KIND_RECURSIVE:
+    case KIND_NUMBER:
         term->atom = true;
         return;
     case KIND_CONSTRUCTOR:
@@ -177,13 +206,22 @@ struct scope scope_of_part(enum layout layout, const struct term *term,
     }
 }
 
+void put_own_words(struct word_sink *sink, const struct term *term)
+{
+    put_word(sink, head_word(term->kind, term->low));
+    if (kind_has_second_word(term->kind))
+        put_word(sink, term->second);
+    if (kind_has_number(term->kind)) { /* "high first" */
+        put_word(sink, (uint16_t)(term->number >> WORD_BITS));
+        put_word(sink, (uint16_t)term->number);
+    }
+}
+
 void put_term(struct word_sink *sink, const struct term *term)
 {
     if (sink_has_overflowed(sink))
         return;
-    put_word(sink, head_word(term->kind, term->low));
-    if (kind_has_second_word(term->kind))
-        put_word(sink, term->second);
+    put_own_words(sink, term);
     for (size_t i = 0; i < term->part_count; i++)
         put_term(sink, term->parts[i]);
 }

@@ -30,6 +30,17 @@ const struct value *constructor_value(struct arena *arena,
     return value;
 }
 
+const struct value *number_value(struct arena *arena, uint32_t number)
+{
+    struct term *term = term_with_parts(
+        arena, (struct term){ .kind = KIND_NUMBER, .number = number });
+    struct value *value = arena_take(arena, sizeof *value);
+
+    settle_atom(term);
+    *value = (struct value){ .term = term };
+    return value;
+}
+
 static const struct value *function_value(struct arena *arena,
                                           const struct term *function,
                                           struct environment environment)
@@ -55,6 +66,8 @@ const struct value *value_of_atom(struct arena *arena, const struct term *atom,
         return look_up(environment.source, atom->low);
     if (atom->kind == KIND_CONTINUATION)
         return look_up(environment.continuation, atom->low);
+    if (atom->kind == KIND_NUMBER)
+        return number_value(arena, atom->number);
     if (atom->kind != KIND_CONSTRUCTOR)
         return function_value(arena, atom, environment);
 
@@ -90,8 +103,7 @@ static const struct term *close_term(const struct closing *closing,
         return close_value(closing, value, depth);
     if (depth > CLOSED_DEPTH_MOST || arena_is_spent(closing->arena))
         return NULL;
-    struct term *closed =
-        term_with_parts(closing->arena, term->kind, term->low, term->second);
+    struct term *closed = term_with_parts(closing->arena, *term);
     for (size_t i = 0; i < term->part_count; i++) {
         struct scope inside =
             scope_of_part(closing->layout, term, i, bound_inside);
@@ -113,8 +125,7 @@ static const struct term *close_constructor(const struct closing *closing,
 
     if (depth > CLOSED_DEPTH_MOST || arena_is_spent(closing->arena))
         return NULL;
-    struct term *closed =
-        term_with_parts(closing->arena, term->kind, term->low, term->second);
+    struct term *closed = term_with_parts(closing->arena, *term);
     for (size_t i = 0; i < closed->part_count; i++) {
         closed->parts[i] =
             close_value(closing, value->arguments[i], depth + 1);

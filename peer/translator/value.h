@@ -14,8 +14,8 @@ struct environment {
 };
 
 /*
- * A function with what was put in for its free variables, or a constructor
- * with its arguments: "A closed atom is a value."
+ * A function with what was put in for its free variables, a constructor with
+ * its arguments, or a number: "A closed atom is a value."
  */
 struct value {
     const struct term *term;
@@ -35,6 +35,8 @@ const struct binding *bind_value(struct arena *arena,
 const struct value *constructor_value(struct arena *arena,
                                       const struct term *constructor,
                                       const struct value **arguments);
+
+const struct value *number_value(struct arena *arena, uint32_t number);
 
 /* The value an atom is once its variables are put in. */
 const struct value *value_of_atom(struct arena *arena, const struct term *atom,
