@@ -7,10 +7,14 @@
 #include "gen_dead.h"
 #include "gen_faults.h"
 #include "gen_limits.h"
+#include "gen_numbers.h"
 #include "gen_places.h"
 #include "gen_random.h"
 #include "gen_record.h"
 #include "gen_runs.h"
+
+/* What the second version is told again: every so many of the short rules. */
+enum { AGAIN_WORDS_MOST = 40, AGAIN_STEP = 3 };
 
 static void write_case_o(struct outlet *out, size_t functions)
 {
@@ -44,10 +48,15 @@ static void write_rules(struct outlet *out)
     write_random_rules(out);
 }
 
+/* All of the first version, then the second's: a share of these, and more. */
 int generate_corpus(FILE *out)
 {
     struct outlet first = outlet_for_all(out, VERSION_1);
+    struct outlet again = outlet_for_some(out, VERSION_2, AGAIN_WORDS_MOST,
+                                          AGAIN_STEP);
 
     write_rules(&first);
+    write_rules(&again);
+    write_numbers(out);
     return ferror(out) ? EXIT_FAILURE : EXIT_SUCCESS;
 }

@@ -11,6 +11,7 @@
 #include "selftest_arguments.h"
 #include "selftest_dead.h"
 #include "selftest_files.h"
+#include "selftest_numbers.h"
 #include "tally.h"
 #include "trials.h"
 
@@ -203,6 +204,7 @@ int run_selftest(FILE *out)
     try_refused(&tally, VERSION_1, dead_cases, DEAD_CASES);
     try_dead_arms(&tally);
     try_arguments(&tally);
+    try_numbers(&tally);
     try_highest_place(&tally);
     try_printing(&tally);
     try_endless(&tally);
