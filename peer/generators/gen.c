@@ -14,7 +14,7 @@
 #include "gen_runs.h"
 
 /* What the second version is told again: every so many of the short rules. */
-enum { AGAIN_WORDS_MOST = 40, AGAIN_STEP = 3 };
+enum { AGAIN_WORDS_MOST = 40, AGAIN_STEP = 4 };
 
 static void write_case_o(struct outlet *out, size_t functions)
 {
@@ -52,11 +52,14 @@ static void write_rules(struct outlet *out)
 int generate_corpus(FILE *out)
 {
     struct outlet first = outlet_for_all(out, VERSION_1);
-    struct outlet again = outlet_for_some(out, VERSION_2, AGAIN_WORDS_MOST,
-                                          AGAIN_STEP);
+    struct outlet again =
+        outlet_for_some(out, VERSION_2, AGAIN_WORDS_MOST, AGAIN_STEP);
+    struct outlet second = outlet_for_all(out, VERSION_2);
 
     write_rules(&first);
     write_rules(&again);
     write_numbers(out);
+    write_number_places(&second);
+    write_random_numbers(&second);
     return ferror(out) ? EXIT_FAILURE : EXIT_SUCCESS;
 }

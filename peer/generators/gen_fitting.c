@@ -1,6 +1,7 @@
 #include "gen_fitting.h"
 
 #include "gen_arms.h"
+#include "gen_numeric.h"
 #include "gen_record.h"
 
 enum { OTHER_ARMS_MOST = 2 };
@@ -12,7 +13,8 @@ enum {
     LARGE_TYPE_ODDS = 6,
     CONSTANT_ODDS = 3,
     FORM_ODDS = 3,
-    NEW_TAG_ODDS = 2
+    NEW_TAG_ODDS = 2,
+    WRITTEN_NUMBER_ODDS = 3
 };
 
 enum fitting_choice {
@@ -59,8 +61,11 @@ static void put_fitting_leaf(struct maker *maker, size_t type)
 {
     size_t index = variable_of_type(maker, type);
 
-    if (index < nameable(maker))
+    if (index < nameable(maker) &&
+        (type != NUMERIC || !one_in(maker, WRITTEN_NUMBER_ODDS)))
         put_kind(maker->sink, KIND_VARIABLE, index);
+    else if (type == NUMERIC)
+        put_some_number(maker);
     else if (type == DATA)
         put_leaf(maker->sink);
     else
@@ -69,6 +74,8 @@ static void put_fitting_leaf(struct maker *maker, size_t type)
 
 size_t some_type(struct maker *maker)
 {
+    if (chooses_number(maker))
+        return NUMERIC;
     return one_in(maker, DATA_ODDS)
                ? (size_t)DATA
                : some_count(maker, LARGE_TYPE_ODDS, ARGUMENTS_MOST);
@@ -164,6 +171,24 @@ static struct arm some_form(struct maker *maker, struct spot spot)
     return (struct arm){ tag, count_for_spot(maker, ARGUMENTS_MOST, spot) };
 }
 
+/* What an arm has bound last, one type for each variable. */
+static void set_last_types(struct maker *maker, const size_t *types,
+                           size_t count)
+{
+    for (size_t i = 0; i < count; i++)
+        maker->types[maker->bound - count + i] = (uint8_t)types[i];
+}
+
+/* A constructor's arguments of these types, drawn one after the other. */
+static void put_typed_arguments(struct maker *maker, size_t *types,
+                                size_t count, struct spot spot)
+{
+    for (size_t i = 0; i < count; i++) {
+        types[i] = chooses_number(maker) ? NUMERIC : DATA;
+        put_fitting(maker, types[i], spot);
+    }
+}
+
 /* A constructor and its arm; perhaps arms for other forms of its tag. */
 static void put_form_match(struct maker *maker, size_t type, struct spot spot)
 {
@@ -174,27 +199,26 @@ static void put_form_match(struct maker *maker, size_t type, struct spot spot)
     struct spot part = part_of(spot, others + 2);
     struct spot argument = { part.target / form.arity, part.depth + 1 };
     struct arms arms = { .count = 0 };
+    size_t types[ARGUMENTS_MOST];
 
     put_kind(maker->sink, KIND_MATCH, others + 1);
     put_two(maker->sink, KIND_CONSTRUCTOR, form.tag, form.arity);
-    for (size_t i = 0; i < form.arity; i++)
-        put_fitting(maker, DATA, argument);
+    put_typed_arguments(maker, types, form.arity, argument);
     for (size_t i = 0; i <= others; i++) {
         size_t arity =
             i == place ? form.arity : other_arity(maker, form.arity);
 
         begin_arm(maker, &arms, (struct arm){ form.tag, arity });
+        if (i == place)
+            set_last_types(maker, types, arity);
         put_fitting(maker, type, part);
         maker->bound = outside;
     }
 }
 
-void put_fitting(struct maker *maker, size_t type, struct spot spot)
+static void put_fitting_choice(struct maker *maker, size_t type,
+                               struct spot spot)
 {
-    if (is_leaf_spot(maker, spot)) {
-        put_fitting_leaf(maker, type);
-        return;
-    }
     switch (below(maker, FITTING_CHOICES)) {
     case CHOOSE_LET:
         put_fitting_let(maker, type, spot);
@@ -216,6 +240,18 @@ void put_fitting(struct maker *maker, size_t type, struct spot spot)
     }
     if (type == DATA)
         put_fitting_call(maker, spot);
+    else if (type == NUMERIC)
+        put_numeric_operation(maker, spot);
     else
         put_fitting_function(maker, type, spot);
+}
+
+void put_fitting(struct maker *maker, size_t type, struct spot spot)
+{
+    if (is_leaf_spot(maker, spot))
+        put_fitting_leaf(maker, type);
+    else if (chooses_number(maker))
+        put_numeric_form(maker, type, spot);
+    else
+        put_fitting_choice(maker, type, spot);
 }

@@ -1,6 +1,7 @@
 #include "gen_free.h"
 
 #include "gen_arms.h"
+#include "gen_numeric.h"
 #include "gen_record.h"
 
 /* One in so many is the rarer choice. */
@@ -14,7 +15,9 @@ enum edge { EDGE_PAST_BOUND, EDGE_LAST_NAME, EDGES = 20 };
 
 static void put_free_leaf(struct maker *maker)
 {
-    if (maker->bound > 0 && !one_in(maker, LEAF_CONSTRUCTOR_ODDS))
+    if (chooses_number(maker))
+        put_some_number(maker);
+    else if (maker->bound > 0 && !one_in(maker, LEAF_CONSTRUCTOR_ODDS))
         put_kind(maker->sink, KIND_VARIABLE, below(maker, nameable(maker)));
     else
         put_two(maker->sink, KIND_CONSTRUCTOR, below(maker, FITTING_TAGS), 0);
@@ -96,15 +99,29 @@ static void put_free_match(struct maker *maker, struct spot spot)
     }
 }
 
-void put_free(struct maker *maker, struct spot spot)
+static void put_free_operation(struct maker *maker, struct spot spot)
+{
+    put_kind(maker->sink, KIND_OPERATION, below(maker, OPERATION_LESS + 1));
+    for (size_t i = 0; i < OPERATION_PARTS; i++)
+        put_free(maker, part_of(spot, OPERATION_PARTS));
+}
+
+static void put_free_choice(struct maker *maker, struct spot spot)
 {
     static void (*const choices[])(struct maker *, struct spot) = {
         put_free_function, put_free_call, put_free_let, put_free_constructor,
         put_free_match
     };
 
-    if (!is_leaf_spot(maker, spot))
-        choices[below(maker, sizeof choices / sizeof choices[0])](maker, spot);
+    choices[below(maker, sizeof choices / sizeof choices[0])](maker, spot);
+}
+
+void put_free(struct maker *maker, struct spot spot)
+{
+    if (!is_leaf_spot(maker, spot) && chooses_number(maker))
+        put_free_operation(maker, spot);
+    else if (!is_leaf_spot(maker, spot))
+        put_free_choice(maker, spot);
     else if (maker->edge_odds > 0 && one_in(maker, maker->edge_odds))
         put_edge_leaf(maker);
     else

@@ -10,6 +10,9 @@
 #define CALL 0x0401, FUNCTION, LEAF
 #define PAIR 0x0602, 0x0002, FUNCTION, LEAF
 #define MATCH 0x0702, LEAF, 0x0800, 0x0000, LEAF, 0x0801, 0x0001, 0x0100
+/* Of the second version: a number, and an operation on two of them. */
+#define NUMBER_LEAF 0x0A00, 0x0401, 0xFFFF
+#define DIFFERENCE 0x0B01, NUMBER_LEAF, 0x0A00, 0x0000, 0x0001
 
 /* Of a form: the words before one of its parts and those after it. */
 struct part {
@@ -46,12 +49,40 @@ static const struct part parts[] = {
 
 enum { PARTS = sizeof parts / sizeof parts[0] };
 
+/* Parts of operations, and parts beside numbers and operations. */
+static const struct part number_parts[] = {
+    /* An operation's first part and its second. */
+    { WORD_LIST(0x0B00), WORD_LIST(NUMBER_LEAF) },
+    { WORD_LIST(0x0B02, DIFFERENCE), { NULL, 0 } },
+    /* Both parts of one that is a match's subject, and an arm after it. */
+    { WORD_LIST(0x0701, 0x0B02), WORD_LIST(LET, 0x0800, 0x0000, NUMBER_LEAF) },
+    { WORD_LIST(0x0701, 0x0B02, NUMBER_LEAF),
+      WORD_LIST(0x0801, 0x0000, DIFFERENCE) },
+    { WORD_LIST(0x0702, 0x0B02, NUMBER_LEAF, CALL, 0x0800, 0x0000, NUMBER_LEAF,
+                0x0801, 0x0000),
+      { NULL, 0 } },
+    /* An argument after a number, and a body after an operation. */
+    { WORD_LIST(0x0403, FUNCTION, NUMBER_LEAF),
+      WORD_LIST(DIFFERENCE, NUMBER_LEAF) },
+    { WORD_LIST(0x06FF, 0x0003, NUMBER_LEAF, DIFFERENCE), { NULL, 0 } },
+    { WORD_LIST(0x0500, DIFFERENCE), { NULL, 0 } },
+};
+
+enum { NUMBER_PARTS = sizeof number_parts / sizeof number_parts[0] };
+
 /* As many as lead from any depth to one too many. */
 #define EIGHT_FUNCTIONS \
     0x0201, 0x0201, 0x0201, 0x0201, 0x0201, 0x0201, 0x0201, 0x0201
 #define MOST_FUNCTIONS                                                  \
     EIGHT_FUNCTIONS, EIGHT_FUNCTIONS, EIGHT_FUNCTIONS, EIGHT_FUNCTIONS, \
         EIGHT_FUNCTIONS, EIGHT_FUNCTIONS, EIGHT_FUNCTIONS, EIGHT_FUNCTIONS
+
+#define EIGHT_OPERATIONS \
+    0x0B00, 0x0B00, 0x0B00, 0x0B00, 0x0B00, 0x0B00, 0x0B00, 0x0B00
+#define MOST_OPERATIONS                                                     \
+    EIGHT_OPERATIONS, EIGHT_OPERATIONS, EIGHT_OPERATIONS, EIGHT_OPERATIONS, \
+        EIGHT_OPERATIONS, EIGHT_OPERATIONS, EIGHT_OPERATIONS,               \
+        EIGHT_OPERATIONS
 
 /* What stands after a fault: what would, nothing, or that and a leaf more. */
 enum rest { REST_FOLLOWS, REST_IS_CUT, REST_IS_TOO_LONG };
@@ -102,6 +133,60 @@ static const struct fault faults[FAULTS] = {
     [WORDS_LEFT] = { WORD_LIST(LEAF), REST_IS_TOO_LONG, 2 },
 };
 
+enum number_fault_name {
+    NUMBER_MISSING,
+    NUMBER_LAST_MISSING,
+    OPERATION_PART_MISSING,
+    NUMBER_RANGE,
+    OPERATION_RANGE,
+    OPERATION_PART_RANGE,
+    NEXT_KIND,
+    OPERATION_PART_KIND,
+    NUMBER_FOR_ARM,
+    OPERATION_FOR_ARM,
+    SECOND_RANGE_AFTER_NUMBER,
+    ARM_DEAD_AFTER_NUMBER,
+    OPERATIONS_DEPTH,
+    NUMBER_DEPTH,
+    OPERATION_PART_UNBOUND,
+    WORDS_LEFT_AFTER_NUMBER,
+    WORDS_LEFT_AFTER_OPERATION,
+    NUMBER_FAULTS
+};
+
+static const struct fault number_faults[NUMBER_FAULTS] = {
+    [NUMBER_MISSING] = { WORD_LIST(0x0A00), REST_IS_CUT, 1 },
+    [NUMBER_LAST_MISSING] = { WORD_LIST(0x0A00, 0x0401), REST_IS_CUT, 2 },
+    [OPERATION_PART_MISSING] = { WORD_LIST(0x0B02, NUMBER_LEAF), REST_IS_CUT,
+                                 4 },
+    [NUMBER_RANGE] = { WORD_LIST(0x0A01), REST_FOLLOWS, 0 },
+    [OPERATION_RANGE] = { WORD_LIST(0x0B03), REST_FOLLOWS, 0 },
+    [OPERATION_PART_RANGE] = { WORD_LIST(0x0B00, NUMBER_LEAF, 0x0BFF),
+                               REST_FOLLOWS, 4 },
+    [NEXT_KIND] = { WORD_LIST(0x0C00), REST_FOLLOWS, 0 },
+    [OPERATION_PART_KIND] = { WORD_LIST(0x0B01, 0x0800), REST_FOLLOWS, 1 },
+    [NUMBER_FOR_ARM] = { WORD_LIST(0x0701, LEAF, 0x0A00), REST_FOLLOWS, 3 },
+    [OPERATION_FOR_ARM] = { WORD_LIST(0x0702, NUMBER_LEAF, 0x0800, 0x0000,
+                                      NUMBER_LEAF, 0x0B00),
+                            REST_FOLLOWS, 9 },
+    [SECOND_RANGE_AFTER_NUMBER] = { WORD_LIST(0x0602, 0x0002, NUMBER_LEAF,
+                                              0x0601, 0x0010),
+                                    REST_FOLLOWS, 6 },
+    [ARM_DEAD_AFTER_NUMBER] = { WORD_LIST(0x0702, DIFFERENCE, 0x0801, 0x0000,
+                                          NUMBER_LEAF, 0x0801, 0x0000),
+                                REST_FOLLOWS, 14 },
+    [OPERATIONS_DEPTH] = { WORD_LIST(MOST_OPERATIONS, NUMBER_LEAF),
+                           REST_FOLLOWS, RULE_DEPTH_MOST - 1 },
+    [NUMBER_DEPTH] = { WORD_LIST(MOST_FUNCTIONS, 0x0A01), REST_FOLLOWS,
+                       RULE_DEPTH_MOST - 1 },
+    [OPERATION_PART_UNBOUND] = { WORD_LIST(0x0B00, NUMBER_LEAF, 0x01FF),
+                                 REST_FOLLOWS, 4 },
+    [WORDS_LEFT_AFTER_NUMBER] = { WORD_LIST(NUMBER_LEAF), REST_IS_TOO_LONG,
+                                  3 },
+    [WORDS_LEFT_AFTER_OPERATION] = { WORD_LIST(DIFFERENCE), REST_IS_TOO_LONG,
+                                     7 },
+};
+
 /* One part inside the other, the fault inside both. */
 static void write_fault(struct outlet *out, const struct part *outer,
                         const struct part *inner, const struct fault *fault)
@@ -126,6 +211,13 @@ static void write_faults_of_one_part(struct outlet *out,
 {
     for (size_t i = 0; i < FAULTS; i++)
         write_fault(out, &whole_rule, part, &faults[i]);
+}
+
+static void write_number_faults_of_one_part(struct outlet *out,
+                                            const struct part *part)
+{
+    for (size_t i = 0; i < NUMBER_FAULTS; i++)
+        write_fault(out, &whole_rule, part, &number_faults[i]);
 }
 
 /* For each two parts one of the faults, in turn. */
@@ -171,4 +263,32 @@ void write_places(struct outlet *out)
         write_faults_of_one_part(out, &parts[i]);
     write_faults_of_two_parts(out);
     write_far_faults(out);
+}
+
+/* For each older part and each of these one of the faults, both ways round. */
+static void write_number_faults_of_two_parts(struct outlet *out)
+{
+    for (size_t i = 0; i < PARTS; i++)
+        for (size_t j = 0; j < NUMBER_PARTS; j++) {
+            write_fault(out, &parts[i], &number_parts[j],
+                        &number_faults[(i + j) % NUMBER_FAULTS]);
+            write_fault(out, &number_parts[j], &parts[i],
+                        &faults[(i + j) % FAULTS]);
+        }
+}
+
+void write_number_places(struct outlet *out)
+{
+    write_number_faults_of_one_part(out, &whole_rule);
+    for (size_t i = 0; i < PARTS; i++)
+        write_number_faults_of_one_part(out, &parts[i]);
+    for (size_t i = 0; i < NUMBER_PARTS; i++) {
+        write_number_faults_of_one_part(out, &number_parts[i]);
+        write_faults_of_one_part(out, &number_parts[i]);
+    }
+    write_number_faults_of_two_parts(out);
+    write_fault_at(out, LOW_BYTE_MOST, &number_faults[NUMBER_RANGE]);
+    write_fault_at(out, LOW_BYTE_MOST + 1, &number_faults[NUMBER_MISSING]);
+    write_fault_at(out, RULE_WORDS_MOST,
+                   &number_faults[NUMBER_LAST_MISSING]);
 }

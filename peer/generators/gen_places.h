@@ -6,4 +6,7 @@
 
 void write_places(struct outlet *out);
 
+/* Of the second version, at numbers and operations and around them. */
+void write_number_places(struct outlet *out);
+
 #endif

@@ -3,10 +3,24 @@
 #include "gen_fitting.h"
 #include "gen_free.h"
 
-enum { SEED = 0x2545F491 };
+/* Well-formed, well-formed but for one word, and words at random. */
+struct row {
+    uint32_t seed;
+    size_t number_odds;
+    size_t well_formed;
+    size_t damaged;
+    size_t random_words;
+};
 
-/* Of 400: well-formed, well-formed but for one word, and words at random. */
-enum { WELL_FORMED_RULES = 240, DAMAGED_RULES = 100, RANDOM_WORD_RULES = 60 };
+static const struct row first_version = { .seed = 0x2545F491,
+                                          .well_formed = 240,
+                                          .damaged = 100,
+                                          .random_words = 60 };
+static const struct row second_version = { .seed = 0x9E3779B9,
+                                           .number_odds = 3,
+                                           .well_formed = 140,
+                                           .damaged = 60,
+                                           .random_words = 40 };
 
 enum {
     RULE_TARGET_MOST = 220,
@@ -36,10 +50,16 @@ void put_well_formed(struct maker *maker, struct record *record)
     } while (record->sink.count > RANDOM_RULE_WORDS_MOST);
 }
 
+/* Without numbers none of the kinds that came with them is put. */
+static enum kind last_kind(const struct maker *maker)
+{
+    return maker->number_odds > 0 ? KIND_OPERATION : KIND_CONTINUATION;
+}
+
 void damage_word(struct maker *maker, struct record *record)
 {
     uint16_t *word = &record->words[below(maker, record->sink.count)];
-    const size_t kinds = KIND_CONTINUATION + 2;
+    const size_t kinds = last_kind(maker) + 2;
 
     switch (below(maker, DAMAGES)) {
     case DAMAGE_WORD:
@@ -60,7 +80,7 @@ void damage_word(struct maker *maker, struct record *record)
 /* Any words at all, or words that look like heads. */
 void put_random_words(struct maker *maker, struct record *record)
 {
-    const size_t kinds = KIND_CONTINUATION + 1;
+    const size_t kinds = last_kind(maker) + 1;
     const size_t lows = 4;
     size_t words = from_to(maker, 1, RANDOM_WORDS_MOST);
     bool like_heads = !one_in(maker, ANY_WORDS_ODDS);
@@ -78,22 +98,33 @@ void put_random_words(struct maker *maker, struct record *record)
     }
 }
 
-void write_random_rules(struct outlet *out)
+static void write_row(struct outlet *out, const struct row *row)
 {
     struct record record;
-    struct maker maker = maker_into(&record.sink, SEED);
+    struct maker maker = maker_into(&record.sink, row->seed);
 
-    for (size_t i = 0; i < WELL_FORMED_RULES; i++) {
+    maker.number_odds = row->number_odds;
+    for (size_t i = 0; i < row->well_formed; i++) {
         put_well_formed(&maker, &record);
         end_record(&record, out);
     }
-    for (size_t i = 0; i < DAMAGED_RULES; i++) {
+    for (size_t i = 0; i < row->damaged; i++) {
         put_well_formed(&maker, &record);
         damage_word(&maker, &record);
         end_record(&record, out);
     }
-    for (size_t i = 0; i < RANDOM_WORD_RULES; i++) {
+    for (size_t i = 0; i < row->random_words; i++) {
         put_random_words(&maker, &record);
         end_record(&record, out);
     }
+}
+
+void write_random_rules(struct outlet *out)
+{
+    write_row(out, &first_version);
+}
+
+void write_random_numbers(struct outlet *out)
+{
+    write_row(out, &second_version);
 }

@@ -14,4 +14,7 @@ void damage_word(struct maker *maker, struct record *record);
 
 void write_random_rules(struct outlet *out);
 
+/* Of the second version: numbers and operations among all the older forms. */
+void write_random_numbers(struct outlet *out);
+
 #endif

@@ -49,6 +49,11 @@ bool one_in(struct maker *maker, size_t count)
     return below(maker, count) == 0;
 }
 
+bool chooses_number(struct maker *maker)
+{
+    return maker->number_odds > 0 && one_in(maker, maker->number_odds);
+}
+
 static size_t lesser(size_t one, size_t other)
 {
     return one < other ? one : other;

@@ -25,8 +25,11 @@ enum { FITTING_TAGS = 3 };
 /* Counts that are not large. */
 enum { SMALL_COUNT_MOST = 3 };
 
-/* A variable's type: data, or a function of that many data to data. */
-enum { DATA = 0 };
+/*
+ * A variable's type: data, a number, or a function of that many data to data.
+ * No term is asked for one of a foreign type.
+ */
+enum { DATA = 0, NUMERIC = LOW_BYTE_MOST, FOREIGN = LOW_BYTE_MOST - 1 };
 
 struct maker {
     struct word_sink *sink;
@@ -34,6 +37,7 @@ struct maker {
     size_t leaf_depth; /* from there on a leaf is written */
     size_t edge_odds;  /* one free leaf in so many is at the edge; 0: none */
     size_t dead_odds;  /* one arm in so many is dead; 0: none */
+    size_t number_odds; /* one choice in so many is for numbers; 0: none */
     size_t bound;
     uint8_t types[VARIABLES_MOST];
 };
@@ -57,6 +61,9 @@ size_t below(struct maker *maker, size_t count);
 
 size_t from_to(struct maker *maker, size_t least, size_t most);
 bool one_in(struct maker *maker, size_t count);
+
+/* Never without number odds, and then nothing is drawn. */
+bool chooses_number(struct maker *maker);
 
 /* Most are small, from 1 on; a large one is at most the number given. */
 size_t some_count(struct maker *maker, size_t large_odds, size_t most);
