@@ -5,6 +5,7 @@
 #include "../translator/file.h"
 #include "fuzz_shapes.h"
 #include "gen_random.h"
+#include "number_cases.h"
 
 /* Of a hundred rules, before any are damaged. */
 static const struct shape {
@@ -20,6 +21,20 @@ enum { SHARES = 100 };
 
 /* One in so many may have dead arms: in some of these many, in some few. */
 enum { DEAD_RULE_ODDS = 20, DEAD_ARM_ODDS_LEAST = 2, DEAD_ARM_ODDS_MOST = 24 };
+
+/* One in so many has an unknown version, of the others one the first. */
+enum { UNKNOWN_VERSION_ODDS = 25, FIRST_VERSION_ODDS = 3 };
+
+/*
+ * One in so many is without numbers where they may be, or with numbers where
+ * they are refused. In some of those with numbers there are many, in some few.
+ */
+enum {
+    WITHOUT_NUMBERS_ODDS = 6,
+    NUMBERS_IN_FIRST_ODDS = 12,
+    NUMBER_ODDS_LEAST = 2,
+    NUMBER_ODDS_MOST = 9
+};
 
 /* One in so many is damaged, half of these by changed words. */
 enum { DAMAGED_ODDS = 5, CHANGED_WORDS_MOST = 3, APPENDED_WORDS_MOST = 4 };
@@ -107,6 +122,27 @@ static size_t dead_odds_of_rule(struct maker *maker)
                : 0;
 }
 
+/* An unknown one may be any, and now and then is known after all. */
+static uint16_t some_version(struct maker *maker)
+{
+    size_t choice = below(maker, 2 * UNKNOWN_VERSIONS);
+    uint16_t any = (uint16_t)next_random(maker);
+
+    if (one_in(maker, UNKNOWN_VERSION_ODDS))
+        return choice < UNKNOWN_VERSIONS ? unknown_versions[choice] : any;
+    return one_in(maker, FIRST_VERSION_ODDS) ? VERSION_1 : VERSION_2;
+}
+
+static size_t number_odds_of_rule(struct maker *maker, uint16_t version)
+{
+    bool has_numbers = version == VERSION_1
+                           ? one_in(maker, NUMBERS_IN_FIRST_ODDS)
+                           : !one_in(maker, WITHOUT_NUMBERS_ODDS);
+
+    return has_numbers ? from_to(maker, NUMBER_ODDS_LEAST, NUMBER_ODDS_MOST)
+                       : 0;
+}
+
 void put_rule(struct random_rule *rule, uint32_t seed, size_t number)
 {
     const size_t words_most = RECORD_WORDS_MOST - APPENDED_WORDS_MOST;
@@ -115,10 +151,12 @@ void put_rule(struct random_rule *rule, uint32_t seed, size_t number)
     bool harmed = one_in(&maker, DAMAGED_ODDS);
     size_t dead_odds = dead_odds_of_rule(&maker);
 
-    rule->version = VERSION_1;
+    rule->version = some_version(&maker);
+    size_t number_odds = number_odds_of_rule(&maker, rule->version);
     do {
         maker = maker_into(&record->sink, maker.state);
         maker.dead_odds = dead_odds;
+        maker.number_odds = number_odds;
         put_shape(&maker, record);
     } while (record->sink.count > words_most);
     if (harmed)

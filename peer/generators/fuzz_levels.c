@@ -23,21 +23,32 @@ static enum kind function_kind(struct maker *maker)
     return one_in(maker, RECURSIVE_ODDS) ? KIND_RECURSIVE : KIND_FUNCTION;
 }
 
-/* Data is never a function, and a function is no constructor or call. */
+/* Each type has kinds of its own besides lets and matches. */
 static enum kind fitting_kind(struct maker *maker, size_t type)
 {
-    static const enum kind of_data[] = { KIND_LET, KIND_MATCH,
-                                         KIND_CONSTRUCTOR, KIND_CALL };
-    static const enum kind of_functions[] = { KIND_LET, KIND_MATCH,
-                                              KIND_FUNCTION, KIND_FUNCTION };
-    size_t choice = below(maker, sizeof of_data / sizeof of_data[0]);
-    enum kind kind = type == DATA ? of_data[choice] : of_functions[choice];
+    enum { CHOICES = 4 };
+    static const enum kind of_data[CHOICES] = { KIND_LET, KIND_MATCH,
+                                                KIND_CONSTRUCTOR, KIND_CALL };
+    static const enum kind of_numbers[CHOICES] = {
+        KIND_LET, KIND_MATCH, KIND_OPERATION, KIND_OPERATION
+    };
+    static const enum kind of_functions[CHOICES] = {
+        KIND_LET, KIND_MATCH, KIND_FUNCTION, KIND_FUNCTION
+    };
+    size_t choice = below(maker, CHOICES);
 
-    return kind == KIND_FUNCTION ? function_kind(maker) : kind;
+    if (type == DATA)
+        return of_data[choice];
+    if (type == NUMERIC)
+        return of_numbers[choice];
+    return of_functions[choice] == KIND_FUNCTION ? function_kind(maker)
+                                                 : of_functions[choice];
 }
 
 static enum kind free_kind(struct maker *maker)
 {
+    if (chooses_number(maker))
+        return KIND_OPERATION;
     return from_to(maker, KIND_FUNCTION, KIND_MATCH);
 }
 
@@ -57,6 +68,11 @@ static void choose_parts(struct maker *maker, bool fitting,
         return;
     case KIND_LET:
         level->parts = 2;
+        return;
+    case KIND_OPERATION: /* less gives no number */
+        level->low = below(maker, fitting ? OPERATION_LESS
+                                          : OPERATION_LESS + 1);
+        level->parts = OPERATION_PARTS;
         return;
     case KIND_CONSTRUCTOR:
         level->parts = fitting ? from_to(maker, 1, FITTING_TAGS - 1)
@@ -95,6 +111,8 @@ static size_t type_of_part(const struct level *level, size_t part)
         return level->low;
     if (level->kind == KIND_LET && part == 0)
         return level->let_type;
+    if (level->kind == KIND_OPERATION)
+        return NUMERIC;
     if (part > 0 && (level->kind == KIND_LET || level->kind == KIND_MATCH))
         return level->place.type;
     return DATA;

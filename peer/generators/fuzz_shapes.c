@@ -56,7 +56,10 @@ enum {
     NEAR_THE_MOST_ODDS = 2
 };
 
-static const struct place whole_rule = { DATA, 1 };
+static struct place whole_rule(struct maker *maker)
+{
+    return (struct place){ chooses_number(maker) ? NUMERIC : DATA, 1 };
+}
 
 /* At depth 65 the tests before 6 and after it are to be met as well. */
 enum ending { ENDING_NOTHING, ENDING_WORD, ENDING_HEAD, ENDINGS = 8 };
@@ -65,7 +68,9 @@ static void put_deep_ending(struct maker *maker, const struct levels *levels,
                             struct place place)
 {
     uint16_t word = (uint16_t)next_random(maker);
-    size_t kind = from_to(maker, KIND_VARIABLE, KIND_MATCH);
+    size_t kind = chooses_number(maker)
+                      ? from_to(maker, KIND_NUMBER, KIND_OPERATION)
+                      : from_to(maker, KIND_VARIABLE, KIND_MATCH);
 
     switch (below(maker, ENDINGS)) {
     case ENDING_NOTHING:
@@ -100,7 +105,8 @@ void put_deep(struct maker *maker, struct record *record)
     maker->leaf_depth =
         from_to(maker, DEEP_LEAF_DEPTH_LEAST, DEEP_LEAF_DEPTH_MOST);
     start_record(record);
-    put_levels(maker, &levels, whole_rule, deep_levels(maker));
+    struct place place = whole_rule(maker);
+    put_levels(maker, &levels, place, deep_levels(maker));
 }
 
 void put_wide(struct maker *maker, struct record *record)
@@ -112,7 +118,8 @@ void put_wide(struct maker *maker, struct record *record)
     if (one_in(maker, DEAD_WIDE_ODDS))
         maker->dead_odds = ARMS_MOST; /* so that late arms are dead too */
     start_record(record);
-    put_levels(maker, &levels, whole_rule, below(maker, WIDE_LEVELS_MOST + 1));
+    struct place place = whole_rule(maker);
+    put_levels(maker, &levels, place, below(maker, WIDE_LEVELS_MOST + 1));
 }
 
 void put_edges(struct maker *maker, struct record *record)
@@ -182,7 +189,8 @@ void put_atoms(struct maker *maker, struct record *record)
                              .put_ending = put_atoms_ending };
 
     start_record(record);
-    put_levels(maker, &levels, whole_rule, below(maker, ATOM_LEVELS_MOST + 1));
+    struct place place = whole_rule(maker);
+    put_levels(maker, &levels, place, below(maker, ATOM_LEVELS_MOST + 1));
 }
 
 /* The words go to the length exactly, where the levels have left that many. */
@@ -214,9 +222,10 @@ void put_long(struct maker *maker, struct record *record)
 
     levels.fitting = !one_in(maker, FREE_ODDS);
     levels.words = long_length(maker);
+    struct place place = whole_rule(maker);
     do {
         start_record(record);
-        put_levels(maker, &levels, whole_rule,
+        put_levels(maker, &levels, place,
                    from_to(maker, LONG_LEVELS_LEAST, LONG_LEVELS_MOST));
     } while (record->sink.count > LONG_WORDS_MOST);
 }

@@ -76,7 +76,11 @@ static void put_wide_constructor(struct maker *maker,
     size_t arguments = wide_count(maker, TOO_WIDE_ODDS);
 
     put_two(maker->sink, KIND_CONSTRUCTOR, tag, arguments);
-    put_data(maker, levels, depth + 1, arguments);
+    for (; arguments > 0; arguments--) {
+        size_t type = chooses_number(maker) ? NUMERIC : DATA;
+
+        put_beside(maker, levels, (struct place){ type, depth + 1 });
+    }
 }
 
 /* An arm whose body calls the function around, its last argument first. */

@@ -235,12 +235,6 @@ static const struct nest nests[] = {
                                          NOUGHT_NUMBER) },
 };
 
-/* What ends a nest: of an operation, the parts are one level deeper. */
-static const struct word_list nest_ends[] = {
-    WORD_LIST(ONE_NUMBER),
-    WORD_LIST(SUM),
-};
-
 static void write_nest(struct outlet *out, const struct nest *nest,
                        struct word_list end, size_t depth)
 {
@@ -253,15 +247,19 @@ static void write_nest(struct outlet *out, const struct nest *nest,
     end_record(&record, out);
 }
 
+/* Of an operation the parts are one level deeper. */
 static void write_nests(struct outlet *out)
 {
-    for (size_t i = 0; i < sizeof nests / sizeof nests[0]; i++)
-        for (size_t j = 0; j < sizeof nest_ends / sizeof nest_ends[0]; j++) {
-            write_nest(out, &nests[i], nest_ends[j], 2);
-            write_nest(out, &nests[i], nest_ends[j], RULE_DEPTH_MOST - 1);
-            write_nest(out, &nests[i], nest_ends[j], RULE_DEPTH_MOST);
-            write_nest(out, &nests[i], nest_ends[j], RULE_DEPTH_MOST + 1);
-        }
+    const struct word_list number = WORD_LIST(ONE_NUMBER);
+    const struct word_list sum = WORD_LIST(SUM);
+
+    for (size_t i = 0; i < sizeof nests / sizeof nests[0]; i++) {
+        write_nest(out, &nests[i], number, 2);
+        write_nest(out, &nests[i], number, RULE_DEPTH_MOST);
+        write_nest(out, &nests[i], number, RULE_DEPTH_MOST + 1);
+        write_nest(out, &nests[i], sum, RULE_DEPTH_MOST - 1);
+        write_nest(out, &nests[i], sum, RULE_DEPTH_MOST);
+    }
 }
 
 /* At depth 65 the tests before 6 and after it; at depth 64 what is cut. */
