@@ -14,7 +14,6 @@ enum {
     MARK_BYTES = 3,
     VERSION_PLACE = 3,
     COUNT_PLACE = 5,
-    VERSION = 1,
     BYTE_BITS = 8,
     BYTE_VALUES = 256
 };
@@ -38,7 +37,13 @@ enum {
 };
 
 /* One in so many is the rarer choice. */
-enum { FILLER_ODDS = 2, WHOLE_ODDS = 2, HARM_AGAIN_ODDS = 3, FLIP_ODDS = 2 };
+enum {
+    FILLER_ODDS = 2,
+    WHOLE_ODDS = 2,
+    HARM_AGAIN_ODDS = 3,
+    FLIP_ODDS = 2,
+    FIRST_VERSION_ODDS = 2
+};
 
 static enum file_form other_form(enum file_form form)
 {
@@ -51,34 +56,34 @@ static void put_any_words(struct maker *maker, size_t count)
         put_word(maker->sink, (uint16_t)next_random(maker));
 }
 
-static void put_no_words(struct maker *maker, enum file_form form)
+static void put_no_words(struct maker *maker, struct made_file *file)
 {
     (void)maker;
-    (void)form;
+    (void)file;
 }
 
-static void put_few_words(struct maker *maker, enum file_form form)
+static void put_few_words(struct maker *maker, struct made_file *file)
 {
-    (void)form;
+    (void)file;
     put_any_words(maker, from_to(maker, 1, FEW_WORDS_MOST));
 }
 
-static void put_some_words(struct maker *maker, enum file_form form)
+static void put_some_words(struct maker *maker, struct made_file *file)
 {
-    (void)form;
+    (void)file;
     put_any_words(maker, from_to(maker, 1, SOME_WORDS_MOST));
 }
 
-static void put_any_count(struct maker *maker, enum file_form form)
+static void put_any_count(struct maker *maker, struct made_file *file)
 {
-    (void)form;
+    (void)file;
     put_any_words(maker, from_to(maker, 1, UINT16_MAX));
 }
 
 /* About as many as the count's 16 bits can say. */
-static void put_near_count(struct maker *maker, enum file_form form)
+static void put_near_count(struct maker *maker, struct made_file *file)
 {
-    (void)form;
+    (void)file;
     put_any_words(maker, from_to(maker, UINT16_MAX - NEAR_COUNT_MOST,
                                  UINT16_MAX + NEAR_COUNT_MOST));
 }
@@ -91,42 +96,47 @@ static size_t near_most(struct maker *maker, enum file_form form)
 }
 
 /* Half of the rules are accepted up to the limit: the bench looks at terms. */
-static void put_near_most(struct maker *maker, enum file_form form)
+static void put_near_most(struct maker *maker, struct made_file *file)
 {
-    size_t count = near_most(maker, form);
+    size_t count = near_most(maker, file->form);
 
-    if (form == FORM_RULE && one_in(maker, FILLER_ODDS))
+    if (file->form == FORM_RULE && one_in(maker, FILLER_ODDS))
         put_filler(maker->sink, count);
     else
         put_any_words(maker, count);
 }
 
-static void put_near_other_most(struct maker *maker, enum file_form form)
+static void put_near_other_most(struct maker *maker, struct made_file *file)
 {
-    put_any_words(maker, near_most(maker, other_form(form)));
+    put_any_words(maker, near_most(maker, other_form(file->form)));
 }
 
-/* A random rule, or its image; if it has none, a few words. */
-static void put_terms(struct maker *maker, enum file_form form)
+/*
+ * A random rule, or its image; if it has none, a few words. The file has the
+ * rule's version where that is known.
+ */
+static void put_terms(struct maker *maker, struct made_file *file)
 {
     struct random_rule rule;
     struct word_sink *sink = maker->sink;
 
     put_rule(&rule, next_random(maker), 0);
     struct word_list words = sink_words(&rule.record.sink);
-    if (form == FORM_RULE)
+    if (version_is_known(rule.version))
+        file->version = rule.version;
+    if (file->form == FORM_RULE)
         put_words(sink, words);
     else
-        sink->count = write_image(rule.version, words, sink->words,
+        sink->count = write_image(file->version, words, sink->words,
                                   IMAGE_WORDS_MOST).count;
     if (sink->count == 0)
-        put_few_words(maker, form);
+        put_few_words(maker, file);
 }
 
 /* Of a hundred files, before any are damaged. */
 static const struct content {
     size_t share;
-    void (*put)(struct maker *, enum file_form);
+    void (*put)(struct maker *, struct made_file *);
 } contents[] = {
     { 31, put_few_words },       { 20, put_some_words }, { 25, put_terms },
     { 10, put_near_most },       { 3, put_any_count },   { 3, put_no_words },
@@ -135,7 +145,7 @@ static const struct content {
 
 enum { SHARES = 100 };
 
-static void put_content(struct maker *maker, enum file_form form)
+static void put_content(struct maker *maker, struct made_file *file)
 {
     size_t drawn = below(maker, SHARES);
     const struct content *content = contents;
@@ -144,7 +154,7 @@ static void put_content(struct maker *maker, enum file_form form)
         drawn -= content->share;
         content++;
     }
-    content->put(maker, form);
+    content->put(maker, file);
 }
 
 /* "all low byte first"; what is left of a file may be too short for it. */
@@ -168,7 +178,7 @@ static void pack_made(struct made_file *file)
 
     file->count = FILE_HEADER_BYTES + BYTES_OF_A_WORD * words;
     set_mark(file, file->form);
-    set_number(file, VERSION_PLACE, VERSION);
+    set_number(file, VERSION_PLACE, file->version);
     set_number(file, COUNT_PLACE, words);
     for (size_t i = 0; i < words; i++)
         set_number(file, FILE_HEADER_BYTES + BYTES_OF_A_WORD * i,
@@ -207,12 +217,21 @@ static void exchange_mark(struct maker *maker, struct made_file *file)
 
 static void harm_version(struct maker *maker, struct made_file *file)
 {
-    static const uint16_t versions[] = { 0, 2, 256, 257, UINT16_MAX };
+    static const uint16_t versions[] = { 0,   3,   256,       257,
+                                         258, 512, UINT16_MAX };
     const size_t count = sizeof versions / sizeof versions[0];
     size_t choice = below(maker, count + 1);
 
     set_number(file, VERSION_PLACE,
                choice < count ? versions[choice] : next_random(maker));
+}
+
+/* No fault in itself: the file is then one of the other version. */
+static void exchange_version(struct maker *maker, struct made_file *file)
+{
+    (void)maker;
+    set_number(file, VERSION_PLACE,
+               file->version == VERSION_1 ? VERSION_2 : VERSION_1);
 }
 
 /* Twice a count with the other high bit is the same in 16 bits. */
@@ -291,10 +310,11 @@ static void make_noise(struct maker *maker, struct made_file *file)
 static void harm_file(struct maker *maker, struct made_file *file)
 {
     static void (*const harms[])(struct maker *, struct made_file *) = {
-        harm_mark,    exchange_mark,     harm_version,
-        harm_count,   harm_count_by_one, exchange_count_bytes,
-        cut_to_few,   cut_off_few,       append_bytes,
-        make_noise,   flip_header_bit,   flip_any_bit
+        harm_mark,        exchange_mark,     harm_version,
+        exchange_version, harm_count,        harm_count_by_one,
+        cut_to_few,       cut_off_few,       exchange_count_bytes,
+        append_bytes,     make_noise,        flip_header_bit,
+        flip_any_bit
     };
 
     harms[below(maker, sizeof harms / sizeof harms[0])](maker, file);
@@ -310,8 +330,9 @@ void make_file(struct made_file *file, uint32_t seed, size_t number)
            one_in(&maker, HARM_AGAIN_ODDS))
         harms++;
     file->form = number % 2 == 0 ? FORM_RULE : FORM_IMAGE;
+    file->version = one_in(&maker, FIRST_VERSION_ODDS) ? VERSION_1 : VERSION_2;
     file->sink = sink_into(file->words, MADE_WORDS_MOST);
-    put_content(&maker, file->form);
+    put_content(&maker, file);
     pack_made(file);
     for (; harms > 0; harms--)
         harm_file(&maker, file);

@@ -1,7 +1,7 @@
 /*
- * An endless row of random files for each seed, well formed and damaged. A
- * file follows from the seed and its number alone. Those of even numbers were
- * made as rules, those of odd numbers as images.
+ * An endless row of random files for each seed, well formed and damaged, of
+ * both versions. A file follows from the seed and its number alone. Those of
+ * even numbers were made as rules, those of odd numbers as images.
  */
 #ifndef PEER_FUZZ_FILES_H
 #define PEER_FUZZ_FILES_H
@@ -23,6 +23,7 @@ enum {
 
 struct made_file {
     enum file_form form;
+    uint16_t version; /* 1 or 2, before any damage */
     struct word_sink sink; /* the words it was made of, before any damage */
     uint16_t words[MADE_WORDS_MOST];
     size_t count;
