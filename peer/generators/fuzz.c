@@ -12,9 +12,9 @@ static const struct shape {
     size_t share;
     void (*put)(struct maker *, struct record *);
 } shapes[] = {
-    { 46, put_well_formed }, { 16, put_deep },  { 13, put_wide },
+    { 36, put_well_formed }, { 16, put_deep },  { 13, put_wide },
     { 9, put_edges },        { 9, put_atoms },  { 5, put_random_words },
-    { 2, put_long },
+    { 2, put_long },         { 10, put_numeric },
 };
 
 enum { SHARES = 100 };

@@ -4,6 +4,7 @@
 #include "fuzz_wide.h"
 #include "gen_fitting.h"
 #include "gen_free.h"
+#include "gen_random.h"
 
 enum {
     DEEP_LEVELS_LEAST = RULE_DEPTH_MOST - 9,
@@ -33,6 +34,8 @@ enum {
     ATOM_ARGUMENTS_MOST = 3,
     ATOM_NESTING = 4
 };
+
+enum { NUMERIC_TARGET_MOST = 80 };
 
 enum {
     LONG_WORDS_LEAST = 1000,
@@ -191,6 +194,19 @@ void put_atoms(struct maker *maker, struct record *record)
     start_record(record);
     struct place place = whole_rule(maker);
     put_levels(maker, &levels, place, below(maker, ATOM_LEVELS_MOST + 1));
+}
+
+void put_numeric(struct maker *maker, struct record *record)
+{
+    if (maker->number_odds == 0) {
+        put_well_formed(maker, record);
+        return;
+    }
+    start_record(record);
+    put_fitting(maker, NUMERIC,
+                (struct spot){ from_to(maker, TARGET_LEAST,
+                                       NUMERIC_TARGET_MOST),
+                               1 });
 }
 
 /* The words go to the length exactly, where the levels have left that many. */

@@ -21,6 +21,9 @@ void put_edges(struct maker *maker, struct record *record);
 /* Constructors of atoms beside constructors with unfinished parts. */
 void put_atoms(struct maker *maker, struct record *record);
 
+/* What comes to a number; without numbers, as the well-formed ones. */
+void put_numeric(struct maker *maker, struct record *record);
+
 /* From a thousand words to somewhat more than are allowed. */
 void put_long(struct maker *maker, struct record *record);
 
