@@ -1,14 +1,14 @@
--- `worked::main` ends: there are so many letters. Assumes nothing.
+-- `worked::answer_set` ends: there are so many letters. Assumes nothing.
 use Prim.Native.Nat.{_-_, _≤_}
 use borrow.Author.Needs.{needs}
-use Rattle.worked.proofs.main.Statement.{statement}
-use Rattle.worked.proofs.main.Tie as tie
+use Rattle.worked.proofs.answer_set.Statement.{statement}
+use Rattle.worked.proofs.answer_set.Tie as tie
 
 abbrev Inv-loop : tie.InvT-loop
-Inv-loop i₀ i = i ≤ 26
+Inv-loop set i₀ i = i ≤ 26
 
 abbrev μ-loop : tie.MeasureT-loop
-μ-loop i₀ i = 26 - i
+μ-loop set i₀ i = 26 - i
 
 loop-holds : tie.Need-loop-holds Inv-loop μ-loop
 loop-holds c = search needs
@@ -37,8 +37,8 @@ loop-again c = search needs
 returns-2 : tie.Need-returns-2 Inv-loop μ-loop
 returns-2 c = search needs
 
-pub main-spec : {M : Type 1} → statement M
-main-spec =
+pub answer-set-spec : {M : Type 1} → statement M
+answer-set-spec =
     tie.close
     (tie.spec
     Inv-loop
