@@ -9,11 +9,10 @@
 #define IDENTITY 0x0201, 0x0100
 #define SUM ADD, ONE_NUMBER, HIGHEST_NUMBER
 
-/* Where the words of numbers differ in length, sign or carry. */
-static const uint32_t edges[] = { 0,          1,          0xFFFF,    0x10000,
-                                  0x7FFFFFFF, 0x80000000, 0xFFFFFFFF };
-
-enum { EDGES = sizeof edges / sizeof edges[0] };
+const uint32_t edge_numbers[EDGE_NUMBERS] = { 0,          1,
+                                              0xFFFF,     0x10000,
+                                              0x7FFFFFFF, 0x80000000,
+                                              0xFFFFFFFE, 0xFFFFFFFF };
 
 /* Words that look like heads, right and wrong, where a number has its own. */
 static const uint16_t like_heads[] = { 0x0000, 0x0100, 0x01FF, 0x0200,
@@ -157,9 +156,10 @@ static void write_edges(struct outlet *out)
 {
     for (size_t operation = OPERATION_ADD; operation <= OPERATION_LESS;
          operation++)
-        for (size_t i = 0; i < EDGES; i++)
-            for (size_t j = 0; j < EDGES; j++)
-                write_operation(out, operation, edges[i], edges[j]);
+        for (size_t i = 0; i < EDGE_NUMBERS; i++)
+            for (size_t j = 0; j < EDGE_NUMBERS; j++)
+                write_operation(out, operation, edge_numbers[i],
+                                edge_numbers[j]);
 }
 
 /* Alone, and in an operation, where the next head follows. */
@@ -289,7 +289,7 @@ static void put_numbers(struct word_sink *sink, size_t count, size_t sum_place)
         if (i == sum_place)
             put_words(sink, sum);
         else
-            put_number(sink, edges[i % EDGES]);
+            put_number(sink, edge_numbers[i % EDGE_NUMBERS]);
     }
 }
 

@@ -8,6 +8,11 @@
 
 #include "../translator/words.h"
 
+/* Where numbers differ in their words, or would in a sign or a carry. */
+enum { EDGE_NUMBERS = 8 };
+
+extern const uint32_t edge_numbers[EDGE_NUMBERS];
+
 /* A number's three words. */
 void put_number(struct word_sink *sink, uint32_t number);
 

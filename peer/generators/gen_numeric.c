@@ -5,12 +5,6 @@
 #include "gen_numbers.h"
 #include "gen_record.h"
 
-static const uint32_t edges[] = { 0,          1,          0x7FFFFFFF,
-                                  0x80000000, 0xFFFFFFFF, 0xFFFFFFFE,
-                                  0xFFFF,     0x10000 };
-
-enum { EDGES = sizeof edges / sizeof edges[0] };
-
 /* Of so many numbers one is small, one is any, and the others are edges. */
 enum some_number { SMALL_NUMBER, ANY_NUMBER, SOME_NUMBERS = 4 };
 
@@ -40,7 +34,7 @@ static uint32_t some_number(struct maker *maker)
     case ANY_NUMBER:
         return next_random(maker);
     default:
-        return edges[below(maker, EDGES)];
+        return edge_numbers[below(maker, EDGE_NUMBERS)];
     }
 }
 
@@ -112,59 +106,76 @@ static void put_numeric_call(struct maker *maker, size_t type,
         put_fitting(maker, types[i], part);
 }
 
-/* Whether the loop goes on: a count up below its end, a count down above 0. */
-static void put_loop_test(struct maker *maker, bool down, uint32_t end)
+/* Counts up or down from its start to its end, one at a time. */
+struct loop {
+    bool down;
+    uint32_t start;
+    uint32_t end;
+};
+
+/* The end lies so few turns away, and no count goes past either edge. */
+static struct loop some_loop(struct maker *maker)
+{
+    struct loop loop = { .down = one_in(maker, COUNT_DOWN_ODDS) };
+    uint32_t turns = (uint32_t)below(maker, TURNS_MOST + 1);
+
+    loop.start = some_number(maker);
+    if (loop.down && loop.start < turns)
+        loop.start = turns;
+    if (!loop.down && loop.start > UINT32_MAX - turns)
+        loop.start = UINT32_MAX - turns;
+    loop.end = loop.down ? loop.start - turns : loop.start + turns;
+    return loop;
+}
+
+/* Whether the loop goes on: counting up it is below its end, else above. */
+static void put_loop_test(struct maker *maker, struct loop loop)
 {
     put_kind(maker->sink, KIND_OPERATION, OPERATION_LESS);
-    if (down)
-        put_number(maker->sink, end);
+    if (loop.down)
+        put_number(maker->sink, loop.end);
     put_kind(maker->sink, KIND_VARIABLE, LOOP_COUNT);
-    if (!down)
-        put_number(maker->sink, end);
+    if (!loop.down)
+        put_number(maker->sink, loop.end);
 }
 
 /* The function again, with a new sum and the next count. */
-static void put_loop_turn(struct maker *maker, bool down, struct spot spot)
+static void put_loop_turn(struct maker *maker, struct loop loop,
+                          struct spot changed_by)
 {
     put_kind(maker->sink, KIND_CALL, LOOP_ARGUMENTS);
     put_kind(maker->sink, KIND_VARIABLE, LOOP_ITSELF);
     put_kind(maker->sink, KIND_OPERATION, below(maker, OPERATION_LESS));
     put_kind(maker->sink, KIND_VARIABLE, LOOP_SUM);
-    put_fitting(maker, NUMERIC,
-                (struct spot){ spot.target, spot.depth + LOOP_LEVELS - 1 });
+    put_fitting(maker, NUMERIC, changed_by);
     put_kind(maker->sink, KIND_OPERATION,
-             down ? OPERATION_SUBTRACT : OPERATION_ADD);
+             loop.down ? OPERATION_SUBTRACT : OPERATION_ADD);
     put_kind(maker->sink, KIND_VARIABLE, LOOP_COUNT);
     put_number(maker->sink, 1);
 }
 
-/* A recursive function that counts up or down and then gives the sum. */
+/* A recursive function that changes a sum with each count, then gives it. */
 static void put_loop(struct maker *maker, struct spot spot)
 {
-    bool down = one_in(maker, COUNT_DOWN_ODDS);
-    uint32_t turns = (uint32_t)below(maker, TURNS_MOST + 1);
-    uint32_t start = some_number(maker);
+    const size_t arms = 2;
+    struct loop loop = some_loop(maker);
     size_t outside = maker->bound;
     struct spot part = part_of(spot, LOOP_ARGUMENTS);
+    struct spot changed_by = { part.target, spot.depth + LOOP_LEVELS - 1 };
 
-    if (down && start < turns)
-        start = turns;
-    if (!down && start > UINT32_MAX - turns)
-        start = UINT32_MAX - turns;
     put_kind(maker->sink, KIND_CALL, LOOP_ARGUMENTS);
     put_kind(maker->sink, KIND_RECURSIVE, LOOP_ARGUMENTS);
     bind_variables(maker, FOREIGN, 1);
     bind_variables(maker, NUMERIC, LOOP_ARGUMENTS);
-    put_kind(maker->sink, KIND_MATCH, 2);
-    put_loop_test(maker, down, down ? start - turns : start + turns);
+    put_kind(maker->sink, KIND_MATCH, arms);
+    put_loop_test(maker, loop);
     put_two(maker->sink, KIND_ARM, TAG_NOT_LESS, 0);
     put_kind(maker->sink, KIND_VARIABLE, LOOP_SUM);
     put_two(maker->sink, KIND_ARM, TAG_LESS, 0);
-    put_loop_turn(maker, down,
-                  (struct spot){ part.target / 2, spot.depth });
+    put_loop_turn(maker, loop, changed_by);
     maker->bound = outside;
     put_fitting(maker, NUMERIC, part);
-    put_number(maker->sink, start);
+    put_number(maker->sink, loop.start);
 }
 
 void put_numeric_form(struct maker *maker, size_t type, struct spot spot)

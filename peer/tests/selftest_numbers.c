@@ -7,7 +7,20 @@
 #include "demand3.h"
 #include "trials.h"
 
-/* Two plus three in numbers, with all five counts. */
+/* The documents' own numbers, so that the names for them are tested. */
+enum {
+    FIRST_KIND = 1,
+    LAST_KIND = 7,
+    NUMBER_KIND = 10,
+    OPERATION_KIND = 11,
+    LAST_OPERATION = 2,
+    FIRST_KNOWN_VERSION = 1,
+    LAST_KNOWN_VERSION = 2,
+    LAST_DEPTH = 64,
+    LONGEST_RULE = 4096,
+    LONGEST_IMAGE = 7 * LONGEST_RULE - 1
+};
+
 static const struct run_case run_cases[] = {
     { "number taken whole", WORD_LIST(HIGHEST_NUMBER),
       WORD_LIST(HIGHEST_NUMBER), { .values = 1 } },
@@ -76,7 +89,8 @@ static void try_every_version(struct tally *tally)
     bool holds = true;
 
     for (size_t version = 0; version <= UINT16_MAX; version++) {
-        bool known = version == 1 || version == 2;
+        bool known = version == FIRST_KNOWN_VERSION ||
+                     version == LAST_KNOWN_VERSION;
 
         holds = holds &&
                 is_placeless(check_rule((uint16_t)version, rule),
@@ -122,8 +136,9 @@ static void try_every_kind(struct tally *tally)
     bool holds = true;
 
     for (size_t kind = 0; kind <= LOW_BYTE_MOST; kind++) {
-        bool in_first = kind >= 1 && kind <= 7;
-        bool in_second = in_first || kind == 10 || kind == 11;
+        bool in_first = kind >= FIRST_KIND && kind <= LAST_KIND;
+        bool in_second =
+            in_first || kind == NUMBER_KIND || kind == OPERATION_KIND;
         enum refusal_number first = number_at_head(VERSION_1, kind, 0);
         enum refusal_number second = number_at_head(VERSION_2, kind, 0);
 
@@ -138,12 +153,18 @@ static void try_every_low(struct tally *tally)
 {
     bool holds = true;
 
-    for (size_t low = 0; low <= LOW_BYTE_MOST; low++)
+    for (size_t low = 0; low <= LOW_BYTE_MOST; low++) {
+        enum refusal_number number =
+            number_at_head(VERSION_2, NUMBER_KIND, low);
+        enum refusal_number operation =
+            number_at_head(VERSION_2, OPERATION_KIND, low);
+
         holds = holds &&
-                number_at_head(VERSION_2, 10, low) ==
+                number ==
                     (low == 0 ? REFUSED_WORD_MISSING : REFUSED_RANGE) &&
-                number_at_head(VERSION_2, 11, low) ==
-                    (low <= 2 ? REFUSED_WORD_MISSING : REFUSED_RANGE);
+                operation == (low <= LAST_OPERATION ? REFUSED_WORD_MISSING
+                                                    : REFUSED_RANGE);
+    }
     expect(tally, holds, "ranges", "each low byte of kinds 10 and 11");
 }
 
@@ -189,45 +210,38 @@ static void try_depth(struct tally *tally)
     const struct word_list range = WORD_LIST(0x0A01);
     const struct word_list sum = WORD_LIST(ADD, ONE_NUMBER, ONE_NUMBER);
     const struct word_list kind = WORD_LIST(0x0C00);
-    const struct refusal nothing = { REFUSED_NOTHING, 0 };
-    const struct refusal too_deep = { REFUSED_DEPTH, 64 };
-    const struct refusal missing = { REFUSED_WORD_MISSING, 65 };
-    struct record record;
+    const struct word_list left_over = WORD_LIST(ONE_NUMBER, 0x0100);
+    const struct refusal too_deep = { REFUSED_DEPTH, LAST_DEPTH };
+    const struct refusal missing = { REFUSED_WORD_MISSING, LAST_DEPTH + 1 };
+    const struct refusal left = { REFUSED_WORDS_LEFT, LAST_DEPTH + 2 };
 
-    start_record(&record);
-    put_case_o(&record.sink, O_ACCEPTED_FUNCTIONS);
-    record.sink.count -= accepted_cases[0].rule.count;
-    put_words(&record.sink, number);
-    expect(tally,
-           is_refusal(check_rule(VERSION_2, sink_words(&record.sink)),
-                      nothing),
-           "depth", "number at depth 64");
-    expect(tally, is_refused_below(64, function, number, too_deep), "depth",
-           "number at depth 65");
-    expect(tally, is_refused_below(64, function, range, too_deep), "depth",
-           "number at depth 65, its low byte out of range");
-    expect(tally, is_refused_below(64, function, kind, too_deep), "depth",
-           "kind 12 at depth 65");
-    expect(tally, is_refused_below(63, function, cut, missing), "depth",
-           "number at depth 64 without its last word");
-    expect(tally, is_refused_below(63, function, sum, too_deep), "depth",
-           "parts of an operation at depth 64");
-    expect(tally, is_refused_below(64, ADD, number, too_deep), "depth",
+    expect(tally, is_refused_below(LAST_DEPTH - 1, function, left_over, left),
+           "depth", "number at depth 64 is read whole");
+    expect(tally, is_refused_below(LAST_DEPTH - 1, function, cut, missing),
+           "depth", "number at depth 64 without its last word");
+    expect(tally, is_refused_below(LAST_DEPTH, function, number, too_deep),
+           "depth", "number at depth 65");
+    expect(tally, is_refused_below(LAST_DEPTH, function, range, too_deep),
+           "depth", "number at depth 65, its low byte out of range");
+    expect(tally, is_refused_below(LAST_DEPTH, function, kind, too_deep),
+           "depth", "kind 12 at depth 65");
+    expect(tally, is_refused_below(LAST_DEPTH - 1, function, sum, too_deep),
+           "depth", "parts of an operation at depth 64");
+    expect(tally, is_refused_below(LAST_DEPTH, ADD, number, too_deep), "depth",
            "operations down to depth 65");
 }
 
 /* A function of sums of its argument falls one word short of seven times. */
 static void try_longest_image(struct tally *tally)
 {
-    const size_t rule_words = RULE_WORDS_MOST;
     struct record record;
 
     start_record(&record);
-    put_sums(&record.sink, rule_words);
+    put_sums(&record.sink, LONGEST_RULE);
     struct word_list rule = sink_words(&record.sink);
     expect(tally,
-           rule.count == rule_words &&
-               measure_image(VERSION_2, rule).count == 28671,
+           rule.count == LONGEST_RULE &&
+               measure_image(VERSION_2, rule).count == LONGEST_IMAGE,
            "images", "the longest of all");
 }
 
