@@ -15,7 +15,7 @@ use Rattle.language.specs.declared.Answer.{Answer}
 use Rattle.language.specs.declared.Answer.the-variants.{Count, Refusal}
 use Rattle.language.proofs.Clash.{never}
 use Rattle.language.proofs.Stores.{filled-short, filled-whole}
-use Rattle.files.specs.Files.{most, headerBytes, header, bytesOf, packed, wordAt, wordsAt, versionIn, countIn, marked, packing, taking, versed, unpacking, unpackedReply, toldUnpacked}
+use Rattle.files.specs.Files.{most, headerBytes, header, bytesOf, packed, wordsAt, versionIn, countIn, marked, packing, taking, versed, unpacking, unpackedReply, toldUnpacked}
 use Rattle.files.specs.declared.Form.{Form}
 use Rattle.files.specs.declared.Unpacked.the-variants as unpacked
 

@@ -14,7 +14,7 @@ use Rattle.language.specs.Kinds.{known}
 use Rattle.language.specs.Read.{noPlace}
 use Rattle.language.specs.Calls.{Reply, Outcome, success, refusal, refuses, filled}
 use Rattle.language.proofs.Clash.{never}
-use Rattle.files.specs.Files.{markL, markR, third, most, headerBytes, header, bytesOf, packed, wordAt, wordsAt, versionIn, countIn, marked, packing, taking, versed, unpacking}
+use Rattle.files.specs.Files.{markL, markR, third, most, headerBytes, header, bytesOf, packed, wordsAt, versionIn, countIn, marked, packing, taking, versed, unpacking}
 use Rattle.files.specs.Promises.{Bytes, PackedUnpacks, AcceptedArePacked}
 use Rattle.files.specs.declared.Form.{Form}
 use Rattle.files.proofs.Calls.{packed-length, wordsAt-length}

@@ -3,7 +3,7 @@
 use Prim.Native.Nat.{ℕ, zero, suc, _+_, _≤_, _<_}
 use mathlib.Core.Path.{_≡_, refl, ap, ap₂}
 use native.Mathlib.Omega.{arith}
-use Rattle.language.specs.Term.{Lang, Term, Terms, Arms, var, kvar, fun, call, bind, con, cases, num, op, cons, arm, size}
+use Rattle.language.specs.Term.{Lang, Term, Terms, Arms, var, kvar, fun, call, bind, con, cases, op, cons, arm, size}
 use Rattle.language.specs.Scope.{HasK, Scoped, Scopedᵗ, Scopedᵃ, s-var, s-kvar, s-fun, s-call, s-bind, s-con, s-cases, s-num, s-op, s-nil, s-cons, s-none, s-arm}
 use Rattle.language.specs.Sub.{look, sub, subᵗ, subᵃ}
 

@@ -8,7 +8,7 @@ use mathlib.Core.List.{List}
 use native.Mathlib.Omega.{arith}
 use lib.Dec.{ltb, eqb}
 use borrow.Author.Tests.{ltb-false, eqb-true}
-use Rattle.language.specs.Calls.{Reply, Outcome, success, replyOf, told}
+use Rattle.language.specs.Calls.{Reply, Outcome, replyOf, told}
 use Rattle.language.specs.declared.Answer.{Answer}
 use Rattle.language.specs.declared.Answer.the-variants.{Count, Refusal}
 use Rattle.language.proofs.Clash.{never}

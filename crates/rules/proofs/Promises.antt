@@ -25,7 +25,7 @@ use Rattle.trust.proofs.Unique.{words-determine}
 use Rattle.meaning.proofs.Promises.{both-ways}
 use Rattle.reading.specs.Answers.{checkedReply}
 use Rattle.reading.specs.declared.Checked.{Checked}
-use Rattle.reading.specs.declared.Checked.the-variants.{Success, Refusal as unchecked}
+use Rattle.reading.specs.declared.Checked.the-variants.{Refusal as unchecked}
 use Rattle.files.specs.Files.{packing, versionIn, versed, unpacking}
 use Rattle.files.specs.declared.Form.{Form}
 use Rattle.files.proofs.Shapes.{Shaped, stays, fills, written-shaped, packing-shaped, taking-shaped}

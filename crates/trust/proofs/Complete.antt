@@ -15,7 +15,7 @@ use Rattle.language.specs.Kinds.{mostArguments, mostByte, operands, atTerm, atA
 use Rattle.language.specs.Words.{head, wordEnd, words, wordsᵗ, wordsᵃ}
 use Rattle.language.specs.Scope.{Scoped, Scopedᵗ, Scopedᵃ, s-var, s-fun, s-call, s-bind, s-con, s-cases, s-num, s-op, s-nil, s-cons, s-none, s-arm}
 use Rattle.language.specs.Limits.{deepest, mostWords, Ranged, Rangedᵗ, Rangedᵃ, r-var, r-kvar, r-fun, r-call, r-bind, r-con, r-cases, r-num, r-op, r-nil, r-cons, r-none, r-arm, depth, depthᵗ, depthᵃ}
-use Rattle.language.specs.Limits.{Kinded, Kindedᵗ, Kindedᵃ, k-var, k-kvar, k-fun, k-call, k-bind, k-con, k-cases, k-num, k-op, k-nil, k-cons, k-none, k-arm}
+use Rattle.language.specs.Limits.{Kinded, Kindedᵗ, Kindedᵃ, k-var, k-fun, k-call, k-bind, k-con, k-cases, k-num, k-op, k-nil, k-cons, k-none, k-arm}
 use Rattle.language.specs.Dead.{dead, Live, Liveᵗ, Liveᵃ, l-var, l-fun, l-call, l-bind, l-con, l-cases, l-num, l-op, l-nil, l-cons, l-none, l-arm}
 use Rattle.language.specs.Places.{Held}
 use Rattle.language.specs.Read.{Got, found, then, made, second, number, many, unlike, armsOf, opened, term, closed, ended, read}

@@ -9,7 +9,7 @@ use native.Mathlib.Omega.{arith}
 use lib.ListN.{getD}
 use mir.Syntax.{w16}
 use mir.Val.{Fits}
-use Rattle.language.specs.Term.{Lang, rules, images, Term, Terms, Arms, kvar, con, op, nil, cons, size, sizeᵃ}
+use Rattle.language.specs.Term.{Lang, rules, images, Term, Terms, Arms, kvar, con, nil, cons, size, sizeᵃ}
 use Rattle.language.specs.Kinds.{mostArguments, lastOperation, operands}
 use Rattle.language.specs.Words.{head, wordEnd, added, words, wordsᵗ, wordsᵃ}
 use Rattle.language.specs.Limits.{Ranged, Rangedᵗ, Rangedᵃ, r-var, r-kvar, r-fun, r-call, r-bind, r-con, r-cases, r-num, r-op, r-nil, r-cons, r-none, r-arm}

@@ -2,7 +2,7 @@
 -- kind by kind, and carried through a term.
 -- Assumes nothing.
 use Prim.Native.Nat.{ℕ, zero, suc, _+_, _<_, _≤_}
-use mathlib.Core.Path.{_≡_, refl, subst}
+use mathlib.Core.Path.{refl, subst}
 use native.Mathlib.Omega.{arith}
 use Rattle.language.specs.Term.{Term, Terms, Arms}
 use Rattle.language.specs.Setting.{inVersion}
