@@ -209,7 +209,8 @@ static void put_form_match(struct maker *maker, size_t type, struct spot spot)
             i == place ? form.arity : other_arity(maker, form.arity);
 
         begin_arm(maker, &arms, (struct arm){ form.tag, arity });
-        if (i == place)
+        /* An arm that was made dead may have another arity. */
+        if (i == place && maker->bound == outside + arity)
             set_last_types(maker, types, arity);
         put_fitting(maker, type, part);
         maker->bound = outside;
