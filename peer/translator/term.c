@@ -145,7 +145,7 @@ struct term *term_with_parts(struct arena *arena, struct term model)
 /*
  * "An atom is a variable, a function, a recursive function, or a constructor
  * whose arguments are all atoms." And: "A number is an atom. An operation
- * never is."
+ * never is".
  */
 void settle_atom(struct term *term)
 {
