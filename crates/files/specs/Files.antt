@@ -1,5 +1,5 @@
--- The two file forms: document 01, "Checks in order", the paragraph on files; and document 02, Wish 13. "Files carry the version; unpacking reports it and
--- every call on words is told it."
+-- The two file forms: document 01, "Checks in order", the paragraph on files; and document 02, Wish 13. "Files carry the version; unpacking reports
+-- it and every call on words is told it."
 use Prim.Native.Nat.{ℕ, zero, suc, _+_, _*_, _/_, _%_}
 use mathlib.Core.Bool.{Bool, cond, _&&_, not}
 use mathlib.Core.List.{List, [], _∷_, _++_}

@@ -13,7 +13,8 @@ use Rattle.files.specs.declared.Form.{Form}
 pub record Bytes (l : List ℕ) : Type 0 where
   pub each : (i : ℕ) → getD l i 0 < 2 ^ 8
 
--- "Packing then unpacking gives the words back": what packing wrote, unpacking accepts, and it gives those words and the version told, whatever is lent
+-- "Packing then unpacking gives the words back": what packing wrote, unpacking accepts, and it gives those words and the version told, whatever is
+-- lent
 abbrev pub PackedUnpacks : Type 0
 PackedUnpacks =
     (f : Form) (v : ℕ) (ws out buf : List ℕ) (n : ℕ) → packing f v ws out .reply ≡ success n → length ws ≤ length buf

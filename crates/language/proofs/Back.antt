@@ -1,6 +1,6 @@
 -- The rules of the relation, read backwards, where what is to come to a value is one already: a call goes on with the function's body, if the
--- arguments are as many as the function has, and a match with the arm that is taken, if one is; nothing else is called or matched; an operation is what it
--- gives. As runs are determined, it does not matter how the values were come to. Assumes nothing.
+-- arguments are as many as the function has, and a match with the arm that is taken, if one is; nothing else is called or matched; an operation is
+-- what it gives. As runs are determined, it does not matter how the values were come to. Assumes nothing.
 use Prim.Native.Nat.{ℕ}
 use mathlib.Core.Option.{Option, some, none as nothing}
 use mathlib.Core.Path.{_≡_, refl, sym, ap₂, subst, _∙_}

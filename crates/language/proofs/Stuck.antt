@@ -1,5 +1,5 @@
--- The rules that call a function with too few or too many arguments, or operate on what is no number, come to no value, and neither do their images: each run is
--- followed, call by call, to the call that nothing goes in for, or to the operation that gives nothing. Assumes nothing.
+-- The rules that call a function with too few or too many arguments, or operate on what is no number, come to no value, and neither do their images:
+-- each run is followed, call by call, to the call that nothing goes in for, or to the operation that gives nothing. Assumes nothing.
 use Prim.Native.Nat.{ℕ}
 use mathlib.Core.Path.{_≡_}
 use Rattle.language.specs.Term.{Lang, Term, call, con, num, op, nil, cons, size}

@@ -1,6 +1,6 @@
 -- The worked rules A to N of document 01, "Worked rules", in one table, and what is claimed of each of them; refusals with their places (document 02,
--- Wish 1); matches on a short and a long form of one tag (Wish 3); dead arms (Wish 4); fifteen arguments (Wish 5); calls that are stuck (Wish 10); numbers,
--- operations and versions (Wish 13). (Case O and larger rules are run by a program.)
+-- Wish 1); matches on a short and a long form of one tag (Wish 3); dead arms (Wish 4); fifteen arguments (Wish 5); calls that are stuck (Wish 10);
+-- numbers, operations and versions (Wish 13). (Case O and larger rules are run by a program.)
 use Prim.Native.Nat.{ℕ}
 use mathlib.Core.List.{List, [], _∷_, _++_, map}
 use mathlib.Core.Option.{Option, some, none}
@@ -20,7 +20,8 @@ pub record Result : Type 0 where
   pub value : List ℕ
   pub applications : ℕ
 
--- the version told, a rule, the words of the output lent to the writing call, that call's reply, the image where it is printed whole, and what it comes to
+-- the version told, a rule, the words of the output lent to the writing call, that call's reply, the image where it is printed whole, and what it
+-- comes to
 pub record Case : Type 0 where
   pub version : ℕ
   pub rule : List ℕ
@@ -50,8 +51,8 @@ pub record Meets (c : Case) : Type 0 where
   pub prints : Said (c .printed) (Prints (readIn c))
   pub comes : Said (c .result) (ComesTo (readIn c))
 
--- an accepted rule that comes to a value, as document 01's table has it: its version, its words, how many words its image has, the words of the value, and the
--- applications
+-- an accepted rule that comes to a value, as document 01's table has it: its version, its words, how many words its image has, the words of the
+-- value, and the applications
 pub record Example : Type 0 where
   pub version : ℕ
   pub rule : List ℕ
@@ -260,9 +261,9 @@ imageOfFifteen =
     0x0401 ∷ 0x0201 ∷ 0x0401 ∷ 0x0900 ∷ 0x0210 ∷ 0x0401 ∷ 0x0201 ∷ 0x0401
     ∷ 0x0900 ∷ 0x010E ∷ 0x0900 ∷ 0x0201 ∷ 0x0900 ∷ []
 
--- Wish 13: what numbers and operations come to; numbers that are cut off after their head and their first word, and an operation that is after its first part;
--- low bytes out of range, where a number's words are not asked for; the kinds after the last; words after a number; the two kinds in version 1, where 4 comes
--- before 5; and versions 0 and 3, where 11 comes before 1. A rule of version 1 is one of version 2
+-- Wish 13: what numbers and operations come to; numbers that are cut off after their head and their first word, and an operation that is after its
+-- first part; low bytes out of range, where a number's words are not asked for; the kinds after the last; words after a number; the two kinds in
+-- version 1, where 4 comes before 5; and versions 0 and 3, where 11 comes before 1. A rule of version 1 is one of version 2
 abbrev pub ofWish13 : List Case
 ofWish13 =
     map runs operations

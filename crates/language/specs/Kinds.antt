@@ -56,8 +56,8 @@ atTerm = 1
 abbrev pub atArm : ℕ
 atArm = 2
 
--- the first and the last version in which a kind stands in rules; where it may stand; its lowest and highest low byte; how many source variables its body
--- has besides the arguments (a recursive function's name, the let's value); what follows it
+-- the first and the last version in which a kind stands in rules; where it may stand; its lowest and highest low byte; how many source variables its
+-- body has besides the arguments (a recursive function's name, the let's value); what follows it
 abbrev pub rowIn : ℕ → ℕ → ℕ → ℕ → ℕ → ℕ → Parts → Row
 rowIn f e s l h b p = record { first = f; last = e; stands = s; low = l; high = h; binds = b; parts = p }
 
@@ -102,8 +102,8 @@ rowOf w = rowAt (w / 256)
 unfoldable pub allowed : Row → ℕ → ℕ → Bool
 allowed r v q = eqb (r .stands) q && (leb (r .first) v && leb v (r .last))
 
--- the tests 4, "kind is not 1 to 7 at a term, not 8 at an arm", where "4 allows 10 and 11 in version 2 only", and 5, "low byte .. outside its range", in this
--- order
+-- the tests 4, "kind is not 1 to 7 at a term, not 8 at an arm", where "4 allows 10 and 11 in version 2 only", and 5, "low byte .. outside its range",
+-- in this order
 unfoldable pub tested : Row → ℕ → ℕ → ℕ → Head
 tested r v q a = cond (allowed r v q) (cond (ltb a (r .low)) (Refused 5) (cond (ltb (r .high) a) (Refused 5) (Opens r))) (Refused 4)
 

@@ -86,8 +86,8 @@ mutual
     k-none : Kindedᵃ P none
     k-arm : {t n : ℕ} {b : Term} {ps : Arms} → P 8 → Kinded P b → Kindedᵃ P ps → Kindedᵃ P (arm t n b ps)
 
--- the terms that rules stand for in a setting: its version is known, and they are "a closed mini-ML program" within the limits, of the kinds that the version
--- has, without dead arms
+-- the terms that rules stand for in a setting: its version is known, and they are "a closed mini-ML program" within the limits, of the kinds that the
+-- version has, without dead arms
 pub record Rule (S : Setting) (t : Term) : Type 0 where
   pub versed : known (S .version) ≡ true
   pub kinds : Kinded (Has (S .version)) t

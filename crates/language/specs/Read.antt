@@ -1,7 +1,7 @@
 -- Reading a rule: document 01, "Checks in order". "the words are read from first to last, and the first fault met is the reply."
 -- A place is the index of a word. Document 02, Wish 1: "Refusals 3 to 8 shall carry the place of the word tested, counted from 0; 3 carries the
--- number of words given. All other refusals carry place 0."; and Wish 4: "18, with its place". Wish 13: "every call on words is told" the version: S is
--- what it is told besides the words.
+-- number of words given. All other refusals carry place 0."; and Wish 4: "18, with its place". Wish 13: "every call on words is told" the version: S
+-- is what it is told besides the words.
 use Prim.Native.Nat.{ℕ, zero, suc, _+_, _*_, _%_}
 use mathlib.Core.Bool.{cond}
 use mathlib.Core.List.{List, [], _∷_, _++_}
@@ -106,7 +106,8 @@ abbrev pub reading : Got Term → Reading
 reading (found t to) = accepted t
 reading (fault e p) = refused e p
 
--- "Lengths first: 1, then 2. Then the words are read from first to last": the closed term at a place, at full depth. 11, "neither 1 nor 2", is tested "before 1"
+-- "Lengths first: 1, then 2. Then the words are read from first to last": the closed term at a place, at full depth. 11, "neither 1 nor 2", is tested
+-- "before 1"
 unfoldable pub closed : Setting → List ℕ → ℕ → Got Term
 closed S s at =
     cond (known (S .version))

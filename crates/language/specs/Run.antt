@@ -74,8 +74,8 @@ took t n (arm t' n' b ps) = cond (both t n t' n') (some b) (took t n ps)
 abbrev pub numberEnd : ℕ
 numberEnd = 2 ^ 32
 
--- `Gives o vs v`: the operation o on the values vs gives v. Document 02, Wish 13: "0 adds, 1 subtracts, both modulo 2 to the 32, and 2 asks whether the first
--- is less, giving tag 1 if so, else tag 0, without arguments". "An operation on anything but numbers has no value."
+-- `Gives o vs v`: the operation o on the values vs gives v. Document 02, Wish 13: "0 adds, 1 subtracts, both modulo 2 to the 32, and 2 asks whether
+-- the first is less, giving tag 1 if so, else tag 0, without arguments". "An operation on anything but numbers has no value."
 pub data Gives : ℕ → Terms → Term → Type 0 where
   adds : {a b : ℕ} → Gives 0 (cons (num a) (cons (num b) nil)) (num ((a + b) % numberEnd))
   subtracts : {a b : ℕ} → Gives 1 (cons (num a) (cons (num b) nil)) (num ((a + (numberEnd - b)) % numberEnd))
@@ -102,7 +102,8 @@ mutual
     done : Runs L nil nil
     then : {t v : Term} {ts vs : Terms} → Run L t v → Runs L ts vs → Runs L (cons t ts) (cons v vs)
 
--- how often each rule is used: values taken whole, calls, lets, matches, and constructors built from unfinished parts; an operation "counts as one" of these
+-- how often each rule is used: values taken whole, calls, lets, matches, and constructors built from unfinished parts; an operation "counts as one"
+-- of these
 pub record Counts : Type 0 where
   pub values : ℕ
   pub calls : ℕ

@@ -11,8 +11,8 @@ pub data Lang : Type 0 where
 -- a counts the source arguments in both languages.
 -- call f ps: "function, then arguments". bind m b: let, "bound term, body". con t ps: the constructor with the tag t.
 -- cases m ps: match, "subject, then arms".
--- num n: the number n. op o ps: the operation o on the parts ps. Document 02, Wish 13: "kind 10, a 32-bit unsigned number"; "kind 11, an operation on two
--- parts".
+-- num n: the number n. op o ps: the operation o on the parts ps. Document 02, Wish 13: "kind 10, a 32-bit unsigned number"; "kind 11, an operation on
+-- two parts".
 mutual
   pub data Term : Type 0 where
     var : ℕ → Term

@@ -1,5 +1,5 @@
--- The worked rules A to G of document 01 and those of document 02's Wishes 3, 4, 5 and 13, run as rules and as images: one table, and the one claim that its
--- numbers are those of both runs. And rules that come to no value (Wishes 10 and 13).
+-- The worked rules A to G of document 01 and those of document 02's Wishes 3, 4, 5 and 13, run as rules and as images: one table, and the one claim
+-- that its numbers are those of both runs. And rules that come to no value (Wishes 10 and 13).
 use Prim.Native.Nat.{ℕ}
 use mathlib.Core.Path.{_≡_}
 use mathlib.Core.List.{List, [], _∷_, _++_, map}
@@ -75,8 +75,8 @@ noArm = 0x0701 ∷ 0x0605 ∷ 0x0000 ∷ 0x0805 ∷ 0x0001 ∷ 0x0100 ∷ []
 abbrev endless : List ℕ
 endless = 0x0401 ∷ 0x0301 ∷ 0x0401 ∷ 0x0101 ∷ 0x0100 ∷ 0x0600 ∷ 0x0000 ∷ []
 
--- Wish 13: of a number and a constructor; of a constructor and a part that never ends, as the constructor is seen only after that part; a number is called; and a
--- number is matched
+-- Wish 13: of a number and a constructor; of a constructor and a part that never ends, as the constructor is seen only after that part; a number is
+-- called; and a number is matched
 abbrev aNumber : List ℕ
 aNumber = 0x0A00 ∷ 0x0000 ∷ 0x0001 ∷ []
 

@@ -10,7 +10,8 @@ use Rattle.peatnickel.specs.Numbers.{answerOf, checkedOf, unpackedOf, fo
 use Rattle.peatnickel.specs.declared.Told.{Told}
 use Rattle.peatnickel.specs.declared.Told.the-variants.{Is, NoForm}
 
--- a call, with what it is told, and with the words or bytes and the output that were lent, as they were at its start; a file's form is told by a number
+-- a call, with what it is told, and with the words or bytes and the output that were lent, as they were at its start; a file's form is told by a
+-- number
 pub data Asked : Type 0 where
   check : Setting → List ℕ → Asked
   measure : Setting → List ℕ → Asked

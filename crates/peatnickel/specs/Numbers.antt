@@ -1,7 +1,7 @@
 -- What the face's numbers mean. A program in C is answered by one number of 32 bits: below 65,536 it is a count, which is always less than that (an
 -- image has at most 28,672 words, and its file 57,351 bytes); from 65,536 on it is a refusal, and what is above 65,536 has document 01's number in its
--- low 16 bits and the place in its high 16 bits. Unpacking answers with 64 bits: the low 32 are such a number, and above them stands the version that the
--- file carries.
+-- low 16 bits and the place in its high 16 bits. Unpacking answers with 64 bits: the low 32 are such a number, and above them stands the version that
+-- the file carries.
 use Prim.Native.Nat.{ℕ, zero, suc, _+_, _-_, _*_, _/_, _%_, _^_, _<_, _≤_}
 use mathlib.Core.Path.{_≡_}
 use mathlib.Core.Bool.{cond}

@@ -1,5 +1,5 @@
--- How the answers that the code gives stand to the replies that they mean: no two answers mean one reply, every reply is meant by one, and a refusal is
--- meant by a refusal. What follows of outcomes is shown once, over any type of answers; the three types that there are come after it.
+-- How the answers that the code gives stand to the replies that they mean: no two answers mean one reply, every reply is meant by one, and a refusal
+-- is meant by a refusal. What follows of outcomes is shown once, over any type of answers; the three types that there are come after it.
 -- Assumes nothing.
 use Prim.Native.Nat.{ℕ}
 use mathlib.Core.Path.{_≡_, refl, sym, ap, _∙_}

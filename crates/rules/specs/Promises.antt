@@ -55,8 +55,8 @@ Faulted (write S ws out) e p = Unwritten S ws out e p
 Faulted (pack f v ws out) e p = packing f v ws out .reply ≡ refusal e p
 Faulted (unpack f bs out) e p = unpacking f bs out .reply ≡ refusal e p
 
--- demand 1: every call, whatever it is told and whatever words or bytes and whatever output are lent to it, gets a reply; that is the refusal e at the place p exactly when the
--- call's tests in order come to it; and a refusal "leaves all that was lent unchanged"
+-- demand 1: every call, whatever it is told and whatever words or bytes and whatever output are lent to it, gets a reply; that is the refusal e at
+-- the place p exactly when the call's tests in order come to it; and a refusal "leaves all that was lent unchanged"
 pub record Replies (c : Call) : Type 0 where
   pub replied : (r : Result c) × Allows c r
   pub faulted : (r : Result c) (e p : ℕ) → Allows c r → Refuses c r e p ↔ Faulted c e p

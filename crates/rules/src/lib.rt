@@ -1,5 +1,5 @@
-// The public calls. A call on words is told the version. None has a `requires`: every sequence of words or bytes and every lent output gets its reply, and a refusal leaves the output as
-// it was. `Allows` says of each call which outcomes are allowed, and exactly one is.
+// The public calls. A call on words is told the version. None has a `requires`: every sequence of words or bytes and every lent output gets its
+// reply, and a refusal leaves the output as it was. `Allows` says of each call which outcomes are allowed, and exactly one is.
 use files::Form;
 use files::Unpacked;
 use language::Answer;

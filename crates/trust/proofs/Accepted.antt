@@ -1,6 +1,6 @@
 -- What is accepted is exactly the words of its term, and the term is a rule. By induction on the levels of depth left: whatever the readers
--- find stands there with its words, names only what is bound, is of the version's kinds, and is in its ranges and its depth. That a number's words are its own
--- and that it is in its range takes that the words fit.
+-- find stands there with its words, names only what is bound, is of the version's kinds, and is in its ranges and its depth. That a number's words
+-- are its own and that it is in its range takes that the words fit.
 -- Assumes nothing.
 use Prim.Native.Nat.{ℕ, zero, suc, _+_, _-_, _*_, _/_, _%_, _<_, _≤_}
 use mathlib.Core.Path.{_≡_, refl, sym, ap, _∙_, subst}

@@ -1,5 +1,5 @@
--- What version 1 takes is what it took: it has neither numbers nor operations, and all that it has version 2 has as well. Both are read off the table of kinds,
--- kind by kind, and carried through a term.
+-- What version 1 takes is what it took: it has neither numbers nor operations, and all that it has version 2 has as well. Both are read off the table
+-- of kinds, kind by kind, and carried through a term.
 -- Assumes nothing.
 use Prim.Native.Nat.{ℕ, zero, suc, _+_, _<_, _≤_}
 use mathlib.Core.Path.{refl, subst}

@@ -18,7 +18,8 @@ use Rattle.language.specs.Read.{noPlace, read, accepted, refused}
 pub record Fit (ws : List ℕ) : Type 0 where
   pub word : (i : ℕ) → getD ws i 0 < wordEnd
 
--- what is accepted is exactly the words of its term, and that term is a rule: closed, within the ranges, the depth and the words, of its version's kinds
+-- what is accepted is exactly the words of its term, and that term is a rule: closed, within the ranges, the depth and the words, of its version's
+-- kinds
 abbrev pub AcceptedAreRules : Type 0
 AcceptedAreRules = (S : Setting) (ws : List ℕ) (t : Term) → Fit ws → read S ws ≡ accepted t → (ws ≡ words rules t) × Rule S t
 

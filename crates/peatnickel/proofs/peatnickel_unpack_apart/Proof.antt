@@ -1,5 +1,5 @@
--- `peatnickel::peatnickel_unpack_apart` meets its contract: without a form nothing is done; else the number means what `rules::unpack` answered, which
--- is small.
+-- `peatnickel::peatnickel_unpack_apart` meets its contract: without a form nothing is done; else the number means what `rules::unpack` answered,
+-- which is small.
 -- Assumes nothing.
 use borrow.Author.Needs.{needs}
 use Rattle.peatnickel.proofs.Ways.{ways}

@@ -1,4 +1,5 @@
--- `peatnickel::unpacked_number` meets its contract: a count that is small stands below its version, and a refusal is the number that it is everywhere.
+-- `peatnickel::unpacked_number` meets its contract: a count that is small stands below its version, and a refusal is the number that it is
+-- everywhere.
 -- Assumes nothing.
 use borrow.Author.Needs.{needs}
 use Rattle.peatnickel.proofs.Ways.{ways}
