@@ -10,10 +10,15 @@
  * What every call has in common:
  *
  * - What is lent is a pointer and a length, in words or in bytes. Of an empty one the pointer is never read.
- * - The reply is one number. Below 65,536 it is a count, which never reaches that: an image has at most 28,672 words,
- *   and its file 57,351 bytes. From 65,536 on it is a refusal: what it has above 65,536 holds the refusal's number in
- *   its low 16 bits and the refusal's place in its high 16 bits. The reply and all that a call leaves in an output are
- *   determined by what was lent.
+ * - Rules are of version 1 or of version 2; numbers and operations, kinds 10 and 11, stand in version 2 only. Every
+ *   call on words is told the version, and refuses any other (11) before it looks at them. A file carries its version,
+ *   and unpacking reports it. A version has 16 bits, and C cuts a larger number at the call: 65,537 is taken for 1. A
+ *   program that has it in a wider type has to compare it before.
+ * - The reply is one number of 32 bits. Below 65,536 it is a count, which never reaches that: an image has at most
+ *   28,672 words, and its file 57,351 bytes. From 65,536 on it is a refusal: what it has above 65,536 holds the
+ *   refusal's number in its low 16 bits and the refusal's place in its high 16 bits. Unpacking's reply has 64 bits: the
+ *   low 32 are such a number, and above them stands the version that the file carries, or 0 at a refusal. The reply and
+ *   all that a call leaves in an output are determined by what was told and lent.
  * - Refusals 3 to 8 and 18 carry the place of the word tested, counted from 0; 3 carries the number of words given. All
  *   other refusals carry place 0. No place is more than 4,096.
  * - A refusal leaves every buffer as it was. Success fills the front of the output; the rest of it is as it was.
@@ -60,10 +65,14 @@ extern "C" {
 /*
  * The version of this header and its archive together. The first number grows when a program that used it rightly has
  * to be looked at again: something has another name or meaning, or some words get another reply. The second grows when
- * something was added. A file's version is another number.
+ * something was added. The version of rules and files is another number, and follows.
  */
-#define PEATNICKEL_VERSION_MAJOR 1
+#define PEATNICKEL_VERSION_MAJOR 2
 #define PEATNICKEL_VERSION_MINOR 0
+
+/* The versions of the language that rules are written in: what the calls are told, and what a file carries. */
+#define PEATNICKEL_LANGUAGE_1 UINT16_C(1)
+#define PEATNICKEL_LANGUAGE_2 UINT16_C(2) /* has numbers and operations */
 
 /* The bytes of a file of so many words. */
 #define PEATNICKEL_FILE_BYTES(words) (7 + 2 * (words))
@@ -77,20 +86,24 @@ extern "C" {
 /* Where the refusals start, and what a place counts for: a refusal is 65,536 + its number + 65,536 * its place. */
 #define PEATNICKEL_REFUSALS UINT32_C(65536)
 
+/* What a version counts for in unpacking's reply, which is a count + 4,294,967,296 * the version, or a refusal. */
+#define PEATNICKEL_VERSIONS UINT64_C(4294967296)
+
 /* The refusals' numbers. 0 is of the face alone, the paper's numbers start at 1. */
 enum peatnickel_refusal {
     PEATNICKEL_WRONG_USE = 0,      /* no such form, or an output that overlaps what else was lent */
     PEATNICKEL_NO_WORDS = 1,       /* no words */
     PEATNICKEL_TOO_MANY_WORDS = 2, /* more than 4,096 words (28,672 for an image file) */
     PEATNICKEL_NONE_LEFT = 3,      /* a word is needed and none is left */
-    PEATNICKEL_WRONG_KIND = 4,     /* kind is not 1 to 7 at a term, not 8 at an arm */
+    PEATNICKEL_WRONG_KIND = 4,     /* kind is not 1 to 7 at a term, not 8 at an arm; 10 and 11 at a term in version 2
+                                      only */
     PEATNICKEL_OUT_OF_RANGE = 5,   /* low byte or second word outside its range */
     PEATNICKEL_TOO_DEEP = 6,       /* a term at depth 65 */
     PEATNICKEL_UNBOUND = 7,        /* variable index not below the number of source variables bound there */
     PEATNICKEL_LEFT_OVER = 8,      /* words left over */
     PEATNICKEL_NO_ROOM = 9,        /* the lent output is shorter than what is to be written */
     PEATNICKEL_WRONG_MARK = 10,    /* file under 7 bytes, or its mark is not that of the form asked for */
-    PEATNICKEL_WRONG_VERSION = 11, /* version is not 1 */
+    PEATNICKEL_WRONG_VERSION = 11, /* version is neither 1 nor 2 */
     PEATNICKEL_WRONG_LENGTH = 12,  /* file length is not 7 plus twice its count */
     PEATNICKEL_DEAD_ARM = 18       /* an earlier arm of the same match has the same tag and arity */
 };
@@ -98,6 +111,20 @@ enum peatnickel_refusal {
 /* The forms of files. */
 #define PEATNICKEL_RULES UINT32_C(0)  /* mark LRS */
 #define PEATNICKEL_IMAGES UINT32_C(1) /* mark LRI */
+
+/*
+ * Unpacking's reply taken apart: the reply as every other call gives it, for what follows; and the version that the
+ * file carries, for the calls on its words, or 0 where it was refused.
+ */
+static inline uint32_t peatnickel_reply_of(uint64_t unpacked)
+{
+    return (uint32_t)(unpacked % PEATNICKEL_VERSIONS);
+}
+
+static inline uint16_t peatnickel_version_of(uint64_t unpacked)
+{
+    return (uint16_t)(unpacked / PEATNICKEL_VERSIONS);
+}
 
 /* Whether a reply is a refusal; and of one that is, its number and its place. */
 static inline int peatnickel_is_refusal(uint32_t reply)
@@ -115,14 +142,17 @@ static inline uint32_t peatnickel_place_of(uint32_t reply)
     return (reply - PEATNICKEL_REFUSALS) / PEATNICKEL_REFUSALS;
 }
 
-/* Whether the words are a rule: 0, or a refusal 1 to 8 or 18, from 3 on with the place of the word tested. */
-uint32_t peatnickel_check(const uint16_t *words, size_t word_count);
+/*
+ * Whether the words are a rule of the version told: 0, or a refusal. That is 11, 1 or 2, tested in this order and all
+ * at place 0, or else one of 3 to 8 or 18, with the place of the word tested.
+ */
+uint32_t peatnickel_check(uint16_t version, const uint16_t *words, size_t word_count);
 
 /*
  * How many words the image of the rule has, or the refusal that peatnickel_check gives. At most seven for each word of
  * the rule.
  */
-uint32_t peatnickel_measure(const uint16_t *words, size_t word_count);
+uint32_t peatnickel_measure(uint16_t version, const uint16_t *words, size_t word_count);
 
 /* How a pointer is declared whose elements are reached through no other. */
 #if defined(__cplusplus) || defined(_MSC_VER)
@@ -135,11 +165,11 @@ uint32_t peatnickel_measure(const uint16_t *words, size_t word_count);
  * The proved functions behind the calls that follow. Their caller owes that the output shares no byte with what else is
  * lent, as the name says; nothing tests it here. Programs in other languages bind these.
  */
-uint32_t peatnickel_write_apart(uint16_t *PEATNICKEL_RESTRICT out, size_t out_count,
+uint32_t peatnickel_write_apart(uint16_t *PEATNICKEL_RESTRICT out, size_t out_count, uint16_t version,
                                 const uint16_t *PEATNICKEL_RESTRICT words, size_t word_count);
-uint32_t peatnickel_pack_apart(uint8_t *PEATNICKEL_RESTRICT out, size_t out_count, uint32_t form,
+uint32_t peatnickel_pack_apart(uint8_t *PEATNICKEL_RESTRICT out, size_t out_count, uint32_t form, uint16_t version,
                                const uint16_t *PEATNICKEL_RESTRICT words, size_t word_count);
-uint32_t peatnickel_unpack_apart(uint16_t *PEATNICKEL_RESTRICT out, size_t out_count, uint32_t form,
+uint64_t peatnickel_unpack_apart(uint16_t *PEATNICKEL_RESTRICT out, size_t out_count, uint32_t form,
                                  const uint8_t *PEATNICKEL_RESTRICT bytes, size_t byte_count);
 
 /*
@@ -162,32 +192,35 @@ static inline int peatnickel_apart(const void *a, size_t a_count, size_t a_size,
  * rule, or the refusal that peatnickel_check gives, whatever the room, or 9 at place 0. At a refusal 0 nothing else is
  * looked at.
  */
-static inline uint32_t peatnickel_write(uint16_t *out, size_t out_count, const uint16_t *words, size_t word_count)
+static inline uint32_t peatnickel_write(uint16_t *out, size_t out_count, uint16_t version, const uint16_t *words,
+                                        size_t word_count)
 {
     if (!peatnickel_apart(out, out_count, sizeof *out, words, word_count, sizeof *words))
         return PEATNICKEL_REFUSALS + PEATNICKEL_WRONG_USE;
-    return peatnickel_write_apart(out, out_count, words, word_count);
+    return peatnickel_write_apart(out, out_count, version, words, word_count);
 }
 
 /*
- * Writes the file of the words, of the form told, at the front of the output: the bytes written, or a refusal 0, 1, 2
- * or 9, all at place 0. Reads no terms. The form is PEATNICKEL_RULES or PEATNICKEL_IMAGES. Any other number gets
- * refusal 0, and so does an output that overlaps the words; nothing else is looked at then.
+ * Writes the file of the words, of the form told and with the version told, at the front of the output: the bytes
+ * written, or a refusal 0, 11, 1, 2 or 9, tested in this order and all at place 0. Reads no terms. The form is
+ * PEATNICKEL_RULES or PEATNICKEL_IMAGES. Any other number gets refusal 0, and so does an output that overlaps the
+ * words; nothing else is looked at then.
  */
-static inline uint32_t peatnickel_pack(uint8_t *out, size_t out_count, uint32_t form, const uint16_t *words,
-                                       size_t word_count)
+static inline uint32_t peatnickel_pack(uint8_t *out, size_t out_count, uint32_t form, uint16_t version,
+                                       const uint16_t *words, size_t word_count)
 {
     if (!peatnickel_apart(out, out_count, sizeof *out, words, word_count, sizeof *words))
         return PEATNICKEL_REFUSALS + PEATNICKEL_WRONG_USE;
-    return peatnickel_pack_apart(out, out_count, form, words, word_count);
+    return peatnickel_pack_apart(out, out_count, form, version, words, word_count);
 }
 
 /*
- * Writes the words of a file, of the form told, at the front of the output: how many, or a refusal 0, 10, 11, 12, 1, 2
- * or 9, tested in this order and all at place 0. Reads no terms. The form is told, and 0 is given, as by
- * peatnickel_pack.
+ * Writes the words of a file, of the form told, at the front of the output: how many and the file's version, or a
+ * refusal 0, 10, 11, 12, 1, 2 or 9, tested in this order and all at place 0. Reads no terms. The form is told, and 0
+ * is given, as by peatnickel_pack. The reply is no count as it stands: peatnickel_reply_of and peatnickel_version_of
+ * take it apart.
  */
-static inline uint32_t peatnickel_unpack(uint16_t *out, size_t out_count, uint32_t form, const uint8_t *bytes,
+static inline uint64_t peatnickel_unpack(uint16_t *out, size_t out_count, uint32_t form, const uint8_t *bytes,
                                          size_t byte_count)
 {
     if (!peatnickel_apart(out, out_count, sizeof *out, bytes, byte_count, sizeof *bytes))
