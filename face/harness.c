@@ -1,237 +1,332 @@
 /*
- * Calls every function of peatnickel.h as a program in C does: on the paper's worked rules A to O, on every refusal and
- * its places, on outputs one element short, and at the limits. Each call is made on a painted output, and everything
- * that the reply does not name must keep its paint. The cases and the images beside the paper's own come from the
- * second translator, peer/. Outputs that overlap an input are face/overlap.c's.
+ * Calls the functions of peatnickel.h that read rules, as a program in C does: on the paper's worked rules A to O and
+ * those of the second version, on every refusal of a rule and its places, on outputs one word short, and at the limits.
+ * Each call is told a version, and made on a painted output. The cases and the images beside those written out come
+ * from the second translator, peer/. Files are face/packing.c's, and outputs that overlap an input face/overlap.c's.
  */
 #include <stdbool.h>
 #include <stdint.h>
 #include <string.h>
 
 #include "../peer/generators/cases.h"
+#include "../peer/generators/gen_numbers.h"
 #include "../peer/generators/gen_record.h"
+#include "../peer/generators/number_cases.h"
 #include "../peer/translator/image.h"
 #include "expect.h"
 #include "number.h"
+#include "painted.h"
 #include "peatnickel.h"
 
 enum {
-    HEADER = PEATNICKEL_FILE_BYTES(0),
-    SPARE = 8, /* words more than any reply fills */
-    ROOM = PEATNICKEL_IMAGE_WORDS + SPARE,
-    FILE_ROOM = PEATNICKEL_FILE_BYTES(ROOM),
-    LAST_REFUSAL = PEATNICKEL_DEAD_ARM,
-    WRONG_WORD = 0xFFFF /* neither a head nor a second word */
+    WRONG_WORD = 0xFFFF,        /* neither a head nor a second word; of a number it may be a part */
+    LONGEST_IMAGE = 28671,      /* words of it, one less than seven times the 4,096 of its rule */
+    KINDS_OF_VERSION_2 = 0x0A00 /* the lowest head of kinds 10 and 11; words that are higher follow one of these */
 };
 
-_Static_assert(PEATNICKEL_RULE_FILE_BYTES == 8199, "the paper's longest file of rules");
-_Static_assert(PEATNICKEL_IMAGE_FILE_BYTES == 57351, "the longest file of images");
-
-static bool given[LAST_REFUSAL + 1]; /* the refusals that were seen */
-
-static uint16_t words_out[ROOM];
-static uint8_t bytes_out[FILE_ROOM];
-
-/* A reply is what it has to be; a refusal is noted as seen. */
-static void expect_reply(uint32_t reply, uint32_t expected, const char *what, const char *name)
-{
-    expect(reply == expected, what, name);
-    if (peatnickel_is_refusal(reply) && peatnickel_refusal_of(reply) <= LAST_REFUSAL)
-        given[peatnickel_refusal_of(reply)] = true;
-}
-
-/* The refusals that there are: 0 to 12 and 18. */
-static bool is_number(uint32_t number)
-{
-    return number <= PEATNICKEL_WRONG_LENGTH || number == PEATNICKEL_DEAD_ARM;
-}
-
-/* All refusals but 3 to 8 and 18 carry place 0. */
-static uint32_t placeless(uint32_t number)
-{
-    return number_of_refusal(number, 0);
-}
-
-/* Paint that differs from place to place. */
-static uint16_t word_paint(size_t i)
-{
-    return (uint16_t)(0xA500 + i * 7);
-}
-
-static uint8_t byte_paint(size_t i)
-{
-    return (uint8_t)(0x5A + i * 7);
-}
-
-static void paint(void)
-{
-    for (size_t i = 0; i < ROOM; i++)
-        words_out[i] = word_paint(i);
-    for (size_t i = 0; i < FILE_ROOM; i++)
-        bytes_out[i] = byte_paint(i);
-}
-
-/* All words and bytes of the outputs from these places on have their paint. */
-static bool painted_from(size_t words, size_t bytes)
-{
-    for (size_t i = words; i < ROOM; i++)
-        if (words_out[i] != word_paint(i))
-            return false;
-    for (size_t i = bytes; i < FILE_ROOM; i++)
-        if (bytes_out[i] != byte_paint(i))
-            return false;
-    return true;
-}
-
-static bool front_is(struct word_list expected)
-{
-    return memcmp(words_out, expected.words, expected.count * sizeof words_out[0]) == 0;
-}
+/* Rules of version 2 with their images, written out by the paper's chain. */
+static const struct image_case written_out[] = {
+    { "a number, written out", WORD_LIST(0x0A00, 0x1234, 0x5678),
+      WORD_LIST(0x0401, 0x0201, 0x0401, 0x0900, 0x0A00, 0x1234, 0x5678, 0x0201, 0x0900) },
+    { "an addition, written out", WORD_LIST(0x0B00, 0x0A00, 0x0000, 0x0002, 0x0A00, 0xFFFF, 0xFFFE),
+      WORD_LIST(0x0401,                                         /* the image calls */
+                0x0201, 0x0401,                                 /* of the chain, before its first term */
+                0x0201, 0x0401, 0x0900, 0x0A00, 0x0000, 0x0002, /* that number's passing form */
+                0x0201, 0x0401,                                 /* before its second term */
+                0x0201, 0x0401, 0x0900, 0x0A00, 0xFFFF, 0xFFFE, /* that number's passing form */
+                0x0201, 0x0401, 0x0902, 0x0B00, 0x0901, 0x0900, /* the ending: k_2 applied to the sum of k_1 and k_0 */
+                0x0201, 0x0900) },
+    { "what is less, written out", WORD_LIST(0x0201, 0x0B02, 0x0100, 0x0A00, 0x0A00, 0x0B00),
+      WORD_LIST(0x0401, 0x0201, 0x0401, 0x0900,                 /* the image calls, with a function, */
+                0x0202, 0x0401,                                 /* which has one argument more and calls */
+                0x0201, 0x0401, 0x0201, 0x0401, 0x0900, 0x0100, /* a chain: a variable, */
+                0x0201, 0x0401,                                 /* and a number, */
+                0x0201, 0x0401, 0x0900, 0x0A00, 0x0A00, 0x0B00, /* whose words are like heads; */
+                0x0201, 0x0401, 0x0902, 0x0B02, 0x0901, 0x0900, /* the ending */
+                0x0900, 0x0201, 0x0900) },
+};
 
 /* The image, from the second translator. */
-static struct word_list peer_image(struct word_list rule)
+static struct word_list peer_image(uint16_t version, struct word_list rule)
 {
     static uint16_t words[PEATNICKEL_IMAGE_WORDS];
-    struct reply reply = write_image(rule, words, PEATNICKEL_IMAGE_WORDS);
+    struct reply reply = write_image(version, rule, words, PEATNICKEL_IMAGE_WORDS);
 
     return (struct word_list){ words, reply.count };
 }
 
-/* A rule that is accepted: every call on it, with room to spare, just room, and one word too few. */
-static void try_accepted(const char *name, struct word_list rule, struct word_list image)
+/* One call that writes, with so much room: the image is written, and nothing else. */
+static void try_writing(const char *name, uint16_t version, struct word_list rule, struct word_list image, size_t room)
 {
-    uint32_t count = (uint32_t)image.count;
-
-    expect_reply(peatnickel_check(rule.words, rule.count), 0, "check", name);
-    expect_reply(peatnickel_measure(rule.words, rule.count), count, "measure", name);
     paint();
-    expect_reply(peatnickel_write(words_out, ROOM, rule.words, rule.count), count, "write", name);
+    expect_reply(peatnickel_write(words_out, room, version, rule.words, rule.count), image.count, "write", name);
     expect(front_is(image), "words written", name);
-    expect(painted_from(image.count, 0), "words past the image", name);
+    expect(painted_but(image.count, 0), "all but the image is untouched", name);
+}
+
+/* A rule that is accepted: every call on it, with room to spare, just room, and one word too few. */
+static void try_accepted(const char *name, uint16_t version, struct word_list rule, struct word_list image)
+{
+    expect_reply(peatnickel_check(version, rule.words, rule.count), 0, "check", name);
+    expect_reply(peatnickel_measure(version, rule.words, rule.count), image.count, "measure", name);
+    try_writing(name, version, rule, image, ROOM);
+    try_writing(name, version, rule, image, image.count);
     paint();
-    expect_reply(peatnickel_write(words_out, image.count, rule.words, rule.count), count, "write, just room", name);
-    expect(front_is(image) && painted_from(image.count, 0), "words written, just room", name);
-    paint();
-    expect_reply(peatnickel_write(words_out, image.count - 1, rule.words, rule.count), placeless(PEATNICKEL_NO_ROOM),
-                 "write, one word short", name);
-    expect(painted_from(0, 0), "output one word short is untouched", name);
+    expect_reply(peatnickel_write(words_out, image.count - 1, version, rule.words, rule.count),
+                 placeless(PEATNICKEL_NO_ROOM), "write, one word short", name);
+    expect(painted(), "output one word short is untouched", name);
 }
 
 /* A rule that is refused: every call on it gives the number and the place, and nothing is touched. */
-static void try_refused(const char *name, struct word_list rule, uint32_t expected)
+static void try_refused(const char *name, uint16_t version, struct word_list rule, uint32_t expected)
 {
     paint();
-    expect_reply(peatnickel_check(rule.words, rule.count), expected, "check", name);
-    expect_reply(peatnickel_measure(rule.words, rule.count), expected, "measure", name);
-    expect_reply(peatnickel_write(words_out, ROOM, rule.words, rule.count), expected, "write", name);
-    expect_reply(peatnickel_write(NULL, 0, rule.words, rule.count), expected, "write to no output", name);
-    expect(painted_from(0, 0), "output of a refusal is untouched", name);
+    expect_reply(peatnickel_check(version, rule.words, rule.count), expected, "check", name);
+    expect_reply(peatnickel_measure(version, rule.words, rule.count), expected, "measure", name);
+    expect_reply(peatnickel_write(words_out, ROOM, version, rule.words, rule.count), expected, "write", name);
+    expect_reply(peatnickel_write(NULL, 0, version, rule.words, rule.count), expected, "write to no output", name);
+    expect(painted(), "output of a refusal is untouched", name);
 }
 
-/* Packs the words and unpacks the file, with just room and one element too few; the bytes are given where known. */
-static void try_file(const char *name, uint32_t form, struct word_list words, const uint8_t *bytes)
+/* A rule of which the second translator says whether it is accepted. */
+static void try_rule(const char *name, uint16_t version, struct word_list rule)
 {
-    static uint8_t file[FILE_ROOM];
-    size_t size = PEATNICKEL_FILE_BYTES(words.count);
+    struct refusal refusal = check_rule(version, rule);
 
-    paint();
-    expect_reply(peatnickel_pack(bytes_out, size - 1, form, words.words, words.count), placeless(PEATNICKEL_NO_ROOM),
-                 "pack, one byte short", name);
-    expect(painted_from(0, 0), "output one byte short is untouched", name);
-    expect_reply(peatnickel_pack(bytes_out, FILE_ROOM, form, words.words, words.count), (uint32_t)size, "pack", name);
-    expect(bytes == NULL || memcmp(bytes_out, bytes, size) == 0, "bytes packed", name);
-    expect(painted_from(0, size), "bytes past the file", name);
-    memcpy(file, bytes_out, size);
-    paint();
-    expect_reply(peatnickel_unpack(words_out, words.count - 1, form, file, size), placeless(PEATNICKEL_NO_ROOM),
-                 "unpack, one word short", name);
-    expect(painted_from(0, 0), "output one word short is untouched", name);
-    expect_reply(peatnickel_unpack(words_out, words.count, form, file, size), (uint32_t)words.count, "unpack", name);
-    expect(front_is(words) && painted_from(words.count, 0), "words unpacked", name);
+    if (refusal.number == REFUSED_NOTHING)
+        try_accepted(name, version, rule, peer_image(version, rule));
+    else
+        try_refused(name, version, rule, number_of(refusal, 0));
 }
 
-static void try_bad_file(const char *name, uint32_t form, const uint8_t *bytes, size_t count, uint32_t number)
+static void accepted_rules(uint16_t version, const struct accepted_case *cases, size_t count)
 {
-    paint();
-    expect_reply(peatnickel_unpack(words_out, ROOM, form, bytes, count), placeless(number), "unpack", name);
-    expect(painted_from(0, 0), "output of a refusal is untouched", name);
+    for (size_t i = 0; i < count; i++) {
+        struct word_list image = peer_image(version, cases[i].rule);
+
+        expect(image.count == cases[i].image_count, "the image's count", cases[i].name);
+        try_accepted(cases[i].name, version, cases[i].rule, image);
+    }
 }
 
-static void try_bad_pack(const char *name, uint32_t form, struct word_list words, uint32_t number)
-{
-    paint();
-    expect_reply(peatnickel_pack(bytes_out, FILE_ROOM, form, words.words, words.count), placeless(number), "pack",
-                 name);
-    expect(painted_from(0, 0), "output of a refusal is untouched", name);
-}
-
-static void refused_rules(const struct refused_case *cases, size_t count)
+static void written_images(uint16_t version, const struct image_case *cases, size_t count)
 {
     for (size_t i = 0; i < count; i++)
-        try_refused(cases[i].name, cases[i].rule, number_of(cases[i].refusal, 0));
+        try_accepted(cases[i].name, version, cases[i].rule, cases[i].image);
 }
 
-/* The worked rules: cases A to N with B's image, which the paper prints, and those that the later requests ask for. */
+static void refused_rules(uint16_t version, const struct refused_case *cases, size_t count)
+{
+    for (size_t i = 0; i < count; i++)
+        try_refused(cases[i].name, version, cases[i].rule, number_of(cases[i].refusal, 0));
+}
+
+/* Rules that version 1 refuses; told to be of version 2, some are refused by another test. */
+static void refused_in_first(const struct refused_case *cases, size_t count)
+{
+    refused_rules(PEATNICKEL_LANGUAGE_1, cases, count);
+    for (size_t i = 0; i < count; i++)
+        try_rule(cases[i].name, PEATNICKEL_LANGUAGE_2, cases[i].rule);
+}
+
+/*
+ * The worked rules: cases A to N with B's image, which the paper prints, and those that the later requests ask for.
+ * What version 1 accepts version 2 does too, with the same image.
+ */
 static void worked_cases(void)
 {
-    for (size_t i = 0; i < ACCEPTED_CASES; i++) {
-        const char *name = accepted_cases[i].name;
-        struct word_list image = peer_image(accepted_cases[i].rule);
+    for (uint16_t version = PEATNICKEL_LANGUAGE_1; version <= PEATNICKEL_LANGUAGE_2; version++) {
+        struct word_list case_a = accepted_cases[0].rule;
 
-        expect(image.count == accepted_cases[i].image_count, "the image's count", name);
-        try_accepted(name, accepted_cases[i].rule, image);
-        try_file(name, PEATNICKEL_RULES, accepted_cases[i].rule, NULL);
-        try_file(name, PEATNICKEL_IMAGES, image, NULL);
+        accepted_rules(version, accepted_cases, ACCEPTED_CASES);
+        written_images(version, image_cases, IMAGE_CASES);
+        try_accepted("case B, the paper's image", version, accepted_cases[1].rule, case_b_image);
+        paint();
+        expect_reply(peatnickel_write(words_out, N_SHORT_OUTPUT, version, case_a.words, case_a.count),
+                     placeless(PEATNICKEL_NO_ROOM), "7 words", "case N");
+        expect(painted(), "output untouched", "case N");
+        expect_reply(peatnickel_write(words_out, N_LONG_ENOUGH_OUTPUT, version, case_a.words, case_a.count), 8,
+                     "8 words", "case N");
     }
-    for (size_t i = 0; i < IMAGE_CASES; i++)
-        try_accepted(image_cases[i].name, image_cases[i].rule, image_cases[i].image);
-    try_accepted("case B, the paper's image", accepted_cases[1].rule, case_b_image);
-    try_file("case B, the paper's file", PEATNICKEL_RULES, accepted_cases[1].rule, case_b_file.bytes);
-    refused_rules(refused_cases, REFUSED_CASES);
-    paint();
-    expect_reply(peatnickel_write(words_out, N_SHORT_OUTPUT, accepted_cases[0].rule.words, 2),
-                 placeless(PEATNICKEL_NO_ROOM), "7 words", "case N");
-    expect(painted_from(0, 0), "output untouched", "case N");
-    expect_reply(peatnickel_write(words_out, N_LONG_ENOUGH_OUTPUT, accepted_cases[0].rule.words, 2), 8, "8 words",
-                 "case N");
+    refused_in_first(refused_cases, REFUSED_CASES);
+    refused_in_first(place_cases, PLACE_CASES);
+    refused_in_first(dead_cases, DEAD_CASES);
 }
 
-/* Case O: 63 functions are accepted, 64 are too deep. */
-static void case_o(void)
+/* The first place of a kind that version 1 has not, in a rule that version 2 accepts. */
+static size_t first_of_second(struct word_list rule)
 {
-    static uint16_t words[O_REFUSED_FUNCTIONS + 2];
-    struct word_sink sink = sink_into(words, O_REFUSED_FUNCTIONS + 2);
+    size_t place = 0;
 
-    put_case_o(&sink, O_REFUSED_FUNCTIONS);
-    try_refused("case O, 64 functions", sink_words(&sink), number_of_refusal(PEATNICKEL_TOO_DEEP, O_REFUSED_FUNCTIONS));
-    sink = sink_into(words, O_REFUSED_FUNCTIONS + 2);
-    put_case_o(&sink, O_ACCEPTED_FUNCTIONS);
-    try_accepted("case O, 63 functions", sink_words(&sink), peer_image(sink_words(&sink)));
+    while (rule.words[place] < KINDS_OF_VERSION_2)
+        place++;
+    return place;
+}
+
+/* Numbers and operations; each of these rules in version 1 is refused where the first of them stands. */
+static void numbers_and_operations(void)
+{
+    accepted_rules(PEATNICKEL_LANGUAGE_2, number_accepted, NUMBER_ACCEPTED);
+    written_images(PEATNICKEL_LANGUAGE_2, number_images, NUMBER_IMAGES);
+    written_images(PEATNICKEL_LANGUAGE_2, written_out, sizeof written_out / sizeof written_out[0]);
+    refused_rules(PEATNICKEL_LANGUAGE_2, number_refused, NUMBER_REFUSED);
+    refused_rules(PEATNICKEL_LANGUAGE_1, number_refused_in_first, NUMBER_REFUSED_IN_FIRST);
+    for (size_t i = 0; i < NUMBER_ACCEPTED; i++)
+        try_refused(number_accepted[i].name, PEATNICKEL_LANGUAGE_1, number_accepted[i].rule,
+                    number_of_refusal(PEATNICKEL_WRONG_KIND, first_of_second(number_accepted[i].rule)));
+}
+
+/* Each low byte of the two kinds, before there is any other word: a number has 0, an operation 0 to 2. */
+static void low_bytes(void)
+{
+    for (unsigned low = 0; low <= UINT8_MAX; low++) {
+        const struct word_list number = WORD_LIST((uint16_t)(0x0A00 + low));
+        const struct word_list operation = WORD_LIST((uint16_t)(0x0B00 + low));
+        const uint32_t missing = number_of_refusal(PEATNICKEL_NONE_LEFT, 1);
+        const uint32_t wrong = number_of_refusal(PEATNICKEL_OUT_OF_RANGE, 0);
+
+        try_refused("a number's low byte", PEATNICKEL_LANGUAGE_2, number, low == 0 ? missing : wrong);
+        try_refused("an operation's low byte", PEATNICKEL_LANGUAGE_2, operation, low <= 2 ? missing : wrong);
+    }
+}
+
+/* A version that is neither is told before everything else: no words, too many, faults of a rule, and no room. */
+static void unknown_version(uint16_t version)
+{
+    static const uint16_t many[PEATNICKEL_RULE_WORDS + 1];
+    const uint32_t expected = placeless(PEATNICKEL_WRONG_VERSION);
+
+    try_refused("no version, no words", version, (struct word_list){ NULL, 0 }, expected);
+    try_refused("no version, 4,097 words", version, (struct word_list){ many, PEATNICKEL_RULE_WORDS + 1 }, expected);
+    try_refused("no version, a rule", version, accepted_cases[0].rule, expected);
+    try_refused("no version, a number", version, number_accepted[0].rule, expected);
+    for (size_t i = 0; i < REFUSED_CASES; i++)
+        try_refused("no version, a refused rule", version, refused_cases[i].rule, expected);
+}
+
+/* C cuts a version that is wider than the calls take, as the header says. */
+static void cut_versions(void)
+{
+    const struct word_list number = written_out[0].rule;
+    const uint32_t past = UINT16_MAX + 1;
+
+    for (uint32_t version = 0; version <= UINT8_MAX; version++) {
+        const uint32_t cut = past + version;
+
+        expect_reply(peatnickel_check(cut, number.words, number.count),
+                     peatnickel_check((uint16_t)version, number.words, number.count), "cut", "versions");
+    }
+}
+
+/* Every version of 16 bits; some near to one that there is, or with its low byte, on more than one rule. */
+static void versions(void)
+{
+    struct word_list rule = accepted_cases[0].rule;
+
+    for (uint32_t version = 0; version <= UINT16_MAX; version++) {
+        const bool known = version == PEATNICKEL_LANGUAGE_1 || version == PEATNICKEL_LANGUAGE_2;
+
+        expect_reply(peatnickel_check((uint16_t)version, rule.words, rule.count),
+                     known ? 0 : placeless(PEATNICKEL_WRONG_VERSION), "check", "versions");
+    }
+    for (size_t i = 0; i < UNKNOWN_VERSIONS; i++)
+        unknown_version(unknown_versions[i]);
+    cut_versions();
+}
+
+/* So many functions, each the body of the one before it, around the words. */
+static void put_below(struct word_sink *sink, size_t functions, struct word_list words)
+{
+    put_case_o(sink, functions);
+    sink->count = functions;
+    put_words(sink, words);
+}
+
+/* Case O: 63 functions around a constructor are accepted, 64 are too deep; and likewise around a number. */
+static void try_case_o(uint16_t version, struct word_list innermost)
+{
+    static uint16_t words[PEATNICKEL_RULE_WORDS];
+    struct word_sink sink = sink_into(words, PEATNICKEL_RULE_WORDS);
+
+    put_below(&sink, O_REFUSED_FUNCTIONS, innermost);
+    try_refused("case O, 64 functions", version, sink_words(&sink),
+                number_of_refusal(PEATNICKEL_TOO_DEEP, O_REFUSED_FUNCTIONS));
+    sink = sink_into(words, PEATNICKEL_RULE_WORDS);
+    put_below(&sink, O_ACCEPTED_FUNCTIONS, innermost);
+    try_accepted("case O, 63 functions", version, sink_words(&sink), peer_image(version, sink_words(&sink)));
+}
+
+/* An operation stands at the last depth, but its parts do not. */
+static void deepest_operation(void)
+{
+    static uint16_t words[PEATNICKEL_RULE_WORDS];
+    struct word_sink sink = sink_into(words, PEATNICKEL_RULE_WORDS);
+
+    put_below(&sink, O_ACCEPTED_FUNCTIONS, written_out[1].rule);
+    try_refused("an operation at depth 64", PEATNICKEL_LANGUAGE_2, sink_words(&sink),
+                number_of_refusal(PEATNICKEL_TOO_DEEP, O_ACCEPTED_FUNCTIONS + 1));
+}
+
+static void depths(void)
+{
+    try_case_o(PEATNICKEL_LANGUAGE_1, accepted_cases[0].rule);
+    try_case_o(PEATNICKEL_LANGUAGE_2, accepted_cases[0].rule);
+    try_case_o(PEATNICKEL_LANGUAGE_2, written_out[0].rule);
+    deepest_operation();
 }
 
 /* A rule of 4,096 words is read, and its last places are told; one of 4,097 is not. */
-static void longest_rules(void)
+static void longest_rules(uint16_t version)
 {
     static uint16_t words[PEATNICKEL_RULE_WORDS + 1];
     struct word_sink sink = sink_into(words, PEATNICKEL_RULE_WORDS + 1);
 
     put_filler(&sink, PEATNICKEL_RULE_WORDS);
-    try_accepted("4,096 words of one value", sink_words(&sink), peer_image(sink_words(&sink)));
+    try_rule("4,096 words of one value", version, sink_words(&sink));
     sink = sink_into(words, PEATNICKEL_RULE_WORDS + 1);
     put_words(&sink, (struct word_list)WORD_LIST(0x0401, 0x0201, 0x0100));
     put_filler(&sink, PEATNICKEL_RULE_WORDS - sink.count);
-    try_accepted("4,096 words of a call", sink_words(&sink), peer_image(sink_words(&sink)));
+    try_rule("4,096 words of a call", version, sink_words(&sink));
     sink = sink_into(words, PEATNICKEL_RULE_WORDS + 1);
     put_filler(&sink, PEATNICKEL_RULE_WORDS + 1);
-    try_refused("4,097 words", sink_words(&sink), placeless(PEATNICKEL_TOO_MANY_WORDS));
+    try_refused("4,097 words", version, sink_words(&sink), placeless(PEATNICKEL_TOO_MANY_WORDS));
     sink.count = PEATNICKEL_RULE_WORDS;
-    try_refused("4,096 words and one missing", sink_words(&sink),
+    try_refused("4,096 words and one missing", version, sink_words(&sink),
                 number_of_refusal(PEATNICKEL_NONE_LEFT, PEATNICKEL_RULE_WORDS));
     sink = sink_into(words, PEATNICKEL_RULE_WORDS + 1);
     put_filler(&sink, PEATNICKEL_RULE_WORDS - 1);
     put_words(&sink, (struct word_list)WORD_LIST(WRONG_WORD));
-    try_refused("4,095 words and one left over", sink_words(&sink),
+    try_refused("4,095 words and one left over", version, sink_words(&sink),
                 number_of_refusal(PEATNICKEL_LEFT_OVER, PEATNICKEL_RULE_WORDS - 1));
+}
+
+/* A pair of 4,096 words in all, the last of them a number's first so many. */
+static void try_last_number(size_t of_number, uint32_t expected)
+{
+    static uint16_t words[PEATNICKEL_RULE_WORDS];
+    const struct word_list number = written_out[0].rule;
+    struct word_sink sink = sink_into(words, PEATNICKEL_RULE_WORDS);
+
+    put_two(&sink, KIND_CONSTRUCTOR, 0, 2);
+    put_filler(&sink, PEATNICKEL_RULE_WORDS - sink.count - of_number);
+    put_words(&sink, (struct word_list){ number.words, of_number });
+    expect_reply(peatnickel_check(PEATNICKEL_LANGUAGE_2, words, sink.count), expected, "check", "a number at the end");
+    try_rule("a number at the end of 4,096 words", PEATNICKEL_LANGUAGE_2, sink_words(&sink));
+}
+
+/* Of version 2: the longest image that a rule has, and a number that ends with the longest rule or is cut by it. */
+static void longest_of_second(void)
+{
+    static uint16_t words[PEATNICKEL_RULE_WORDS];
+    struct word_sink sink = sink_into(words, PEATNICKEL_RULE_WORDS);
+
+    put_sums(&sink, PEATNICKEL_RULE_WORDS);
+    expect_reply(peatnickel_measure(PEATNICKEL_LANGUAGE_2, words, sink.count), LONGEST_IMAGE, "measure",
+                 "the longest image");
+    try_rule("the longest image", PEATNICKEL_LANGUAGE_2, sink_words(&sink));
+    try_last_number(3, 0);
+    try_last_number(2, number_of_refusal(PEATNICKEL_NONE_LEFT, PEATNICKEL_RULE_WORDS));
+    try_last_number(1, number_of_refusal(PEATNICKEL_NONE_LEFT, PEATNICKEL_RULE_WORDS));
 }
 
 /* A refusal's parts are read from the reply; a count is none. */
@@ -252,107 +347,65 @@ static void replies(void)
     expect(!peatnickel_is_refusal(0) && !peatnickel_is_refusal(PEATNICKEL_REFUSALS - 1), "counts", "replies");
 }
 
-/*
- * The accepted rules with one word wrong, cut, and with a word more. A word that is wrong wherever it stands is the
- * word tested; whether as a head or as a second word, and so the number, the second translator says.
- */
-static void spoiled_cases(void)
+/* A rule with one word wrong. Where that is no part of a number it is the word tested; the peer says by which test. */
+static void spoil(const char *name, uint16_t version, struct word_list rule)
+{
+    static uint16_t words[PEATNICKEL_RULE_WORDS];
+    struct word_list spoiled = { words, rule.count };
+
+    for (size_t place = 0; place < rule.count; place++) {
+        memcpy(words, rule.words, rule.count * sizeof words[0]);
+        words[place] = WRONG_WORD;
+        const enum refusal_number number = check_rule(version, spoiled).number;
+
+        if (number == REFUSED_NOTHING)
+            try_accepted(name, version, spoiled, peer_image(version, spoiled));
+        else
+            try_refused(name, version, spoiled, number_of_refusal(number, place));
+    }
+}
+
+/* A rule cut after each of its words, and with a word more. */
+static void cut_and_lengthen(const char *name, uint16_t version, struct word_list rule)
 {
     static uint16_t words[PEATNICKEL_RULE_WORDS];
 
-    for (size_t i = 0; i < ACCEPTED_CASES; i++) {
-        const char *name = accepted_cases[i].name;
-        struct word_list rule = accepted_cases[i].rule;
-        struct word_list spoiled = { words, rule.count };
+    for (size_t count = 1; count < rule.count; count++)
+        try_refused(name, version, (struct word_list){ rule.words, count },
+                    number_of_refusal(PEATNICKEL_NONE_LEFT, count));
+    memcpy(words, rule.words, rule.count * sizeof words[0]);
+    words[rule.count] = words[0];
+    try_refused(name, version, (struct word_list){ words, rule.count + 1 },
+                number_of_refusal(PEATNICKEL_LEFT_OVER, rule.count));
+}
 
-        for (size_t place = 0; place < rule.count; place++) {
-            memcpy(words, rule.words, rule.count * sizeof words[0]);
-            words[place] = WRONG_WORD;
-            try_refused(name, spoiled, number_of_refusal(check_rule(spoiled).number, place));
-        }
-        for (size_t count = 1; count < rule.count; count++)
-            try_refused(name, (struct word_list){ rule.words, count }, number_of_refusal(PEATNICKEL_NONE_LEFT, count));
-        memcpy(words, rule.words, rule.count * sizeof words[0]);
-        words[rule.count] = words[0];
-        spoiled.count = rule.count + 1;
-        try_refused(name, spoiled, number_of_refusal(PEATNICKEL_LEFT_OVER, rule.count));
+static void spoiled_rules(uint16_t version, const struct accepted_case *cases, size_t count)
+{
+    for (size_t i = 0; i < count; i++) {
+        spoil(cases[i].name, version, cases[i].rule);
+        cut_and_lengthen(cases[i].name, version, cases[i].rule);
     }
-}
-
-/* The header of a file that says it holds so many words. */
-static void put_file_header(uint8_t *bytes, char third, unsigned version, size_t count)
-{
-    const uint8_t header[HEADER] = { 'L', 'R', (uint8_t)third, (uint8_t)version, (uint8_t)(version >> 8),
-                                     (uint8_t)count, (uint8_t)(count >> 8) };
-
-    memcpy(bytes, header, HEADER);
-}
-
-/* Files at the limit of their form, and one word past it. */
-static void longest_files(void)
-{
-    static uint16_t words[PEATNICKEL_IMAGE_WORDS + 1];
-    static uint8_t file[PEATNICKEL_FILE_BYTES(PEATNICKEL_IMAGE_WORDS + 1)];
-    const struct {
-        const char *name;
-        uint32_t form;
-        char third;
-        size_t most;
-    } forms[] = { { "longest file of rules", PEATNICKEL_RULES, 'S', PEATNICKEL_RULE_WORDS },
-                  { "longest file of images", PEATNICKEL_IMAGES, 'I', PEATNICKEL_IMAGE_WORDS } };
-
-    for (size_t i = 0; i <= PEATNICKEL_IMAGE_WORDS; i++)
-        words[i] = (uint16_t)(i * 31 + 5);
-    for (size_t i = 0; i < 2; i++) {
-        size_t past = forms[i].most + 1;
-
-        try_file(forms[i].name, forms[i].form, (struct word_list){ words, forms[i].most }, NULL);
-        try_bad_pack(forms[i].name, forms[i].form, (struct word_list){ words, past }, PEATNICKEL_TOO_MANY_WORDS);
-        put_file_header(file, forms[i].third, 1, past);
-        try_bad_file(forms[i].name, forms[i].form, file, PEATNICKEL_FILE_BYTES(past), PEATNICKEL_TOO_MANY_WORDS);
-    }
-}
-
-/* The refusals of files: 10, 11, 12, 1, in this order, and no form. */
-static void bad_files(void)
-{
-    uint8_t file[PEATNICKEL_FILE_BYTES(1)] = { 0 };
-
-    put_file_header(file, 'S', 1, 1);
-    try_bad_file("no bytes", PEATNICKEL_RULES, NULL, 0, PEATNICKEL_WRONG_MARK);
-    try_bad_file("6 bytes", PEATNICKEL_RULES, file, HEADER - 1, PEATNICKEL_WRONG_MARK);
-    try_bad_file("rules for images", PEATNICKEL_IMAGES, file, sizeof file, PEATNICKEL_WRONG_MARK);
-    put_file_header(file, 'I', 1, 1);
-    try_bad_file("images for rules", PEATNICKEL_RULES, file, sizeof file, PEATNICKEL_WRONG_MARK);
-    put_file_header(file, 'S', 2, 7);
-    try_bad_file("version 2", PEATNICKEL_RULES, file, sizeof file, PEATNICKEL_WRONG_VERSION);
-    put_file_header(file, 'S', 0x0101, 1);
-    try_bad_file("version 257", PEATNICKEL_RULES, file, sizeof file, PEATNICKEL_WRONG_VERSION);
-    put_file_header(file, 'S', 1, 0);
-    try_bad_file("one word more than counted", PEATNICKEL_RULES, file, sizeof file, PEATNICKEL_WRONG_LENGTH);
-    try_bad_file("count 0", PEATNICKEL_RULES, file, HEADER, PEATNICKEL_NO_WORDS);
-    put_file_header(file, 'S', 1, 1);
-    try_bad_file("a byte short", PEATNICKEL_RULES, file, sizeof file - 1, PEATNICKEL_WRONG_LENGTH);
-    try_bad_file("form 2", 2, file, sizeof file, PEATNICKEL_WRONG_USE);
-    try_bad_file("form 4,294,967,295", UINT32_MAX, NULL, 0, PEATNICKEL_WRONG_USE);
-    try_bad_pack("form 2", 2, accepted_cases[0].rule, PEATNICKEL_WRONG_USE);
-    try_bad_pack("form 65,536", 65536, accepted_cases[0].rule, PEATNICKEL_WRONG_USE);
-    try_bad_pack("no words of rules", PEATNICKEL_RULES, (struct word_list){ NULL, 0 }, PEATNICKEL_NO_WORDS);
-    try_bad_pack("no words of images", PEATNICKEL_IMAGES, (struct word_list){ NULL, 0 }, PEATNICKEL_NO_WORDS);
 }
 
 int main(void)
 {
+    static const uint32_t of_rules[] = { PEATNICKEL_NO_WORDS,      PEATNICKEL_TOO_MANY_WORDS, PEATNICKEL_NONE_LEFT,
+                                         PEATNICKEL_WRONG_KIND,    PEATNICKEL_OUT_OF_RANGE,   PEATNICKEL_TOO_DEEP,
+                                         PEATNICKEL_UNBOUND,       PEATNICKEL_LEFT_OVER,      PEATNICKEL_NO_ROOM,
+                                         PEATNICKEL_WRONG_VERSION, PEATNICKEL_DEAD_ARM };
+
     replies();
     worked_cases();
-    case_o();
-    refused_rules(place_cases, PLACE_CASES);
-    refused_rules(dead_cases, DEAD_CASES);
-    spoiled_cases();
-    longest_rules();
-    longest_files();
-    bad_files();
-    for (unsigned number = 0; number <= LAST_REFUSAL; number++)
-        expect(given[number] == is_number(number), "each refusal was given, and no other", "refusals");
+    numbers_and_operations();
+    low_bytes();
+    versions();
+    depths();
+    spoiled_rules(PEATNICKEL_LANGUAGE_1, accepted_cases, ACCEPTED_CASES);
+    spoiled_rules(PEATNICKEL_LANGUAGE_2, accepted_cases, ACCEPTED_CASES);
+    spoiled_rules(PEATNICKEL_LANGUAGE_2, number_accepted, NUMBER_ACCEPTED);
+    longest_rules(PEATNICKEL_LANGUAGE_1);
+    longest_rules(PEATNICKEL_LANGUAGE_2);
+    longest_of_second();
+    expect_given(of_rules, sizeof of_rules / sizeof of_rules[0]);
     return tally();
 }

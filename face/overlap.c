@@ -15,7 +15,7 @@
  * every byte around the two is a guard. HOME is far enough in for the longest output to end before the input; PAST is
  * how far the output is moved beyond the places where it touches the input.
  */
-enum { ROOM_BYTES = 256, HOME = 96, PAST = 4, PAINT = 0xA5 };
+enum { ROOM_BYTES = 256, HOME = 96, PAST = 4, PAINT = 0xA5, UNKNOWN_VERSION = 3, NO_FORM = 2 };
 
 /* Case B: the rule, and its file as the paper prints it. */
 static const uint16_t rule[] = { 0x0401, 0x0201, 0x0100, 0x0600, 0x0000 };
@@ -28,7 +28,8 @@ struct region {
     size_t size; /* of an element, in bytes */
 };
 
-typedef uint32_t (*call)(void *out, size_t out_count, const void *in, size_t in_count);
+/* The reply is unpacking's, with a version above the count; the other calls' has none. */
+typedef uint64_t (*call)(void *out, size_t out_count, const void *in, size_t in_count);
 
 /* A call with an output: as the header's front, which tests for overlap, and as the proved function behind it. */
 struct tried {
@@ -41,32 +42,32 @@ struct tried {
     size_t in_count;
 };
 
-static uint32_t front_write(void *out, size_t out_count, const void *in, size_t in_count)
+static uint64_t front_write(void *out, size_t out_count, const void *in, size_t in_count)
 {
-    return peatnickel_write(out, out_count, in, in_count);
+    return peatnickel_write(out, out_count, PEATNICKEL_LANGUAGE_1, in, in_count);
 }
 
-static uint32_t proved_write(void *out, size_t out_count, const void *in, size_t in_count)
+static uint64_t proved_write(void *out, size_t out_count, const void *in, size_t in_count)
 {
-    return peatnickel_write_apart(out, out_count, in, in_count);
+    return peatnickel_write_apart(out, out_count, PEATNICKEL_LANGUAGE_1, in, in_count);
 }
 
-static uint32_t front_pack(void *out, size_t out_count, const void *in, size_t in_count)
+static uint64_t front_pack(void *out, size_t out_count, const void *in, size_t in_count)
 {
-    return peatnickel_pack(out, out_count, PEATNICKEL_RULES, in, in_count);
+    return peatnickel_pack(out, out_count, PEATNICKEL_RULES, PEATNICKEL_LANGUAGE_1, in, in_count);
 }
 
-static uint32_t proved_pack(void *out, size_t out_count, const void *in, size_t in_count)
+static uint64_t proved_pack(void *out, size_t out_count, const void *in, size_t in_count)
 {
-    return peatnickel_pack_apart(out, out_count, PEATNICKEL_RULES, in, in_count);
+    return peatnickel_pack_apart(out, out_count, PEATNICKEL_RULES, PEATNICKEL_LANGUAGE_1, in, in_count);
 }
 
-static uint32_t front_unpack(void *out, size_t out_count, const void *in, size_t in_count)
+static uint64_t front_unpack(void *out, size_t out_count, const void *in, size_t in_count)
 {
     return peatnickel_unpack(out, out_count, PEATNICKEL_RULES, in, in_count);
 }
 
-static uint32_t proved_unpack(void *out, size_t out_count, const void *in, size_t in_count)
+static uint64_t proved_unpack(void *out, size_t out_count, const void *in, size_t in_count)
 {
     return peatnickel_unpack_apart(out, out_count, PEATNICKEL_RULES, in, in_count);
 }
@@ -92,7 +93,7 @@ static void try_places(const struct tried *tried, struct region out, struct regi
     static uint16_t own_out[ROOM_BYTES / sizeof(uint16_t)];
     static unsigned char expected[ROOM_BYTES];
     unsigned char *bytes = (unsigned char *)room;
-    uint32_t reply = PEATNICKEL_REFUSALS + PEATNICKEL_WRONG_USE;
+    uint64_t reply = PEATNICKEL_REFUSALS + PEATNICKEL_WRONG_USE;
 
     memset(room, PAINT, sizeof room);
     memcpy(bytes + in.at, tried->in, in.count * in.size);
@@ -122,7 +123,8 @@ static void try_lengths(const struct tried *tried, size_t out_count, size_t in_c
 static void try_call(const struct tried *tried)
 {
     static uint16_t out[ROOM_BYTES];
-    const size_t needed = tried->proved(out, ROOM_BYTES / tried->out_size, tried->in, tried->in_count);
+    const uint64_t reply = tried->proved(out, ROOM_BYTES / tried->out_size, tried->in, tried->in_count);
+    const size_t needed = peatnickel_reply_of(reply);
     const size_t counts[] = { 0, 1, needed - 1, needed, needed + PAST };
 
     expect((needed + 2 * PAST) * tried->out_size <= HOME, "there is room before the input", tried->name);
@@ -173,10 +175,28 @@ static void try_apart(void)
     expect(peatnickel_apart(words, 8, 0, words, 8, size), "elements of no bytes", "apart");
 }
 
+/* Of an overlap nothing else is told: not that there is no such version or form, nor a fault of what is lent. */
+static void try_first_test(void)
+{
+    const uint32_t overlap = PEATNICKEL_REFUSALS + PEATNICKEL_WRONG_USE;
+    uint16_t words[PEATNICKEL_FILE_BYTES(0)] = { 0 };
+    const size_t count = sizeof words / sizeof words[0];
+    uint8_t *bytes = (uint8_t *)words;
+
+    expect(peatnickel_write(words, count, UNKNOWN_VERSION, words, count) == overlap, "write", "first test");
+    expect(peatnickel_pack(bytes, sizeof words, PEATNICKEL_RULES, UNKNOWN_VERSION, words, count) == overlap, "pack",
+           "first test");
+    expect(peatnickel_pack(bytes, sizeof words, NO_FORM, UNKNOWN_VERSION, words, count) == overlap, "pack, no form",
+           "first test");
+    expect(peatnickel_unpack(words, count, PEATNICKEL_RULES, bytes, sizeof words) == overlap, "unpack", "first test");
+    expect(words[0] == 0 && memcmp(words, words + 1, sizeof words - sizeof words[0]) == 0, "untouched", "first test");
+}
+
 int main(void)
 {
     for (size_t i = 0; i < sizeof calls / sizeof calls[0]; i++)
         try_call(&calls[i]);
     try_apart();
+    try_first_test();
     return tally();
 }
