@@ -1,6 +1,7 @@
 /*
- * One call, of packing or unpacking, made on both sides and compared. Each side is lent buffers of its own, and the whole of
- * them is looked at: the output and its guards, which are painted, and what was lent to be read, with a tail behind it.
+ * One call, of packing or unpacking, made on both sides and compared. Each side is lent buffers of its own, and the
+ * whole of them is looked at: the output and its guards, which are painted, and what was lent to be read, with a tail
+ * behind it.
  */
 #include "both.h"
 
@@ -37,9 +38,10 @@ struct side {
 };
 
 /* What is made wrong on the proved side, to show that it is found. */
-enum damage { NOTHING, REPLY, PLACE, FIRST, LAST, BEFORE, BEHIND, INPUT, DAMAGES };
+enum damage { NOTHING, REPLY, PLACE, VERSION, FIRST, LAST, BEFORE, BEHIND, INPUT, DAMAGES };
 
-static const char *const damage_names[DAMAGES] = { "nothing", "reply", "place", "first", "last", "before", "behind", "input" };
+static const char *const damage_names[DAMAGES] = { "nothing", "reply",  "place",  "version", "first",
+                                                   "last",    "before", "behind", "input" };
 
 static uint32_t seed;
 static struct moment now;
@@ -99,32 +101,32 @@ void give_words(const uint16_t *words, size_t count)
     memset(peer.words + count, PEER_TAIL, TAIL * sizeof words[0]);
 }
 
-static uint32_t ask_proved(const struct call *call)
+static uint64_t ask_proved(const struct call *call)
 {
     if (call->act == UNPACKING)
         return peatnickel_unpack(output_words(&proved), call->room, call->form, proved.bytes, call->given);
-    return peatnickel_pack(output_bytes(&proved), call->room, call->form, proved.words, call->given);
+    return peatnickel_pack(output_bytes(&proved), call->room, call->form, call->version, proved.words, call->given);
 }
 
-static struct reply ask_form(const struct call *call, enum file_form form)
+/* The reply as a number of the face. */
+static uint64_t ask_form(const struct call *call, enum file_form form)
 {
     const struct byte_list bytes = { peer.bytes, call->given };
     const struct word_list words = { peer.words, call->given };
+    struct reply packed;
 
     if (call->act == UNPACKING)
-        return unpack_file(form, bytes, output_words(&peer), call->room);
-    return pack_file(form, words, output_bytes(&peer), call->room);
+        return number_of_unpacking(unpack_file(form, bytes, output_words(&peer), call->room));
+    packed = pack_file(form, call->version, words, output_bytes(&peer), call->room);
+    return number_of(packed.refusal, packed.count);
 }
 
-/* The reply as a number of the face. To what is no form the peer has none, and the face's own refusal stands for it. */
-static uint32_t ask_peer(const struct call *call)
+/* To what is no form the peer has no reply, and the face's own refusal stands for it. */
+static uint64_t ask_peer(const struct call *call)
 {
-    struct reply reply;
-
     if (call->form != PEATNICKEL_RULES && call->form != PEATNICKEL_IMAGES)
         return number_of_refusal(PEATNICKEL_WRONG_USE, 0);
-    reply = ask_form(call, call->form == PEATNICKEL_RULES ? FORM_RULE : FORM_IMAGE);
-    return number_of(reply.refusal, reply.count);
+    return ask_form(call, call->form == PEATNICKEL_RULES ? FORM_RULE : FORM_IMAGE);
 }
 
 void plant_damage(const char *name, struct moment at)
@@ -136,8 +138,11 @@ void plant_damage(const char *name, struct moment at)
 }
 
 /* The proved side's reply, after the damage where this is its place. */
-static uint32_t spoiled(const struct call *call, uint32_t reply)
+static uint64_t spoiled(const struct call *call, uint64_t reply)
 {
+    static const uint64_t added[DAMAGES] = {
+        [REPLY] = 1, [PLACE] = PEATNICKEL_REFUSALS, [VERSION] = PEATNICKEL_VERSIONS
+    };
     uint8_t *output = output_bytes(&proved);
     uint8_t *end = output + room_bytes(call);
     uint8_t *input = call->act == UNPACKING ? proved.bytes : (uint8_t *)proved.words;
@@ -149,9 +154,7 @@ static uint32_t spoiled(const struct call *call, uint32_t reply)
         return reply;
     if (places[damage] != NULL)
         *places[damage] ^= 1;
-    if (damage == REPLY)
-        return reply + 1;
-    return damage == PLACE ? reply + PEATNICKEL_REFUSALS : reply;
+    return reply + added[damage];
 }
 
 static bool is_all(const void *bytes, int byte, size_t count)
@@ -189,13 +192,13 @@ static bool rest_is_painted(const struct call *call, uint32_t reply)
            memcmp((uint8_t *)peer.area + start, (uint8_t *)paint + start, room - written + GUARD) == 0;
 }
 
-static const char *difference(const struct call *call, uint32_t proved_reply, uint32_t peer_reply)
+static const char *difference(const struct call *call, uint64_t proved_reply, uint64_t peer_reply)
 {
     if (proved_reply != peer_reply)
         return "the replies differ";
     if (memcmp(proved.area, peer.area, GUARD + room_bytes(call) + GUARD) != 0)
         return "the outputs differ";
-    if (!rest_is_painted(call, peer_reply))
+    if (!rest_is_painted(call, peatnickel_reply_of(peer_reply)))
         return "more is written than the reply says";
     return input_is_kept(call) ? NULL : "what was lent to be read has changed";
 }
@@ -216,35 +219,49 @@ static void print_elements(const struct call *call)
         printf("and %zu more\n", call->given - shown);
 }
 
-static void print_reply(const char *side, uint32_t reply)
+static void print_reply(const char *side, uint64_t reply)
 {
-    if (peatnickel_is_refusal(reply))
-        printf("%s: no %u %u\n", side, (unsigned)peatnickel_refusal_of(reply), (unsigned)peatnickel_place_of(reply));
+    const uint32_t number = peatnickel_reply_of(reply);
+    const unsigned version = peatnickel_version_of(reply);
+
+    if (peatnickel_is_refusal(number))
+        printf("%s: no %u %u", side, (unsigned)peatnickel_refusal_of(number), (unsigned)peatnickel_place_of(number));
     else
-        printf("%s: %u\n", side, (unsigned)reply);
+        printf("%s: %u", side, (unsigned)number);
+    if (version > 0)
+        printf(", version %u", version);
+    putchar('\n');
 }
 
-void tell_and_stop(const struct call *call, uint32_t proved_reply, uint32_t peer_reply, const char *what)
+/* What was asked, in a line. */
+static void print_call(const struct call *call)
 {
-    const bool unpacks = call->act == UNPACKING;
+    if (call->act == UNPACKING)
+        printf("unpack as form %u, %zu words of output, from %zu bytes:\n", (unsigned)call->form, call->room,
+               call->given);
+    else
+        printf("pack as form %u and version %u, %zu bytes of output, from %zu words:\n", (unsigned)call->form,
+               (unsigned)call->version, call->room, call->given);
+}
 
+void tell_and_stop(const struct call *call, uint64_t proved_reply, uint64_t peer_reply, const char *what)
+{
     printf("seed %u, file %zu, call %zu: %s\n", (unsigned)seed, now.file, now.call, what);
-    printf("%s as form %u, %zu %s of output, from %zu %s:\n", unpacks ? "unpack" : "pack", (unsigned)call->form, call->room,
-           unpacks ? "words" : "bytes", call->given, unpacks ? "bytes" : "words");
+    print_call(call);
     print_elements(call);
     print_reply("proved", proved_reply);
     print_reply("peer", peer_reply);
     exit(EXIT_FAILURE);
 }
 
-uint32_t make_call(const struct call *call)
+uint64_t make_call(const struct call *call)
 {
     now.call++;
     memcpy(proved.area, paint, GUARD + room_bytes(call) + GUARD);
     memcpy(peer.area, paint, GUARD + room_bytes(call) + GUARD);
 
-    const uint32_t proved_reply = spoiled(call, ask_proved(call));
-    const uint32_t peer_reply = ask_peer(call);
+    const uint64_t proved_reply = spoiled(call, ask_proved(call));
+    const uint64_t peer_reply = ask_peer(call);
     const char *what = difference(call, proved_reply, peer_reply);
 
     if (what != NULL)
