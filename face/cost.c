@@ -24,49 +24,54 @@
 #include "peatnickel.h"
 #include "shapes.h"
 
-/* The rules kept of a corpus, which today has 2,512; and the stack lent to a call, far more than any of them uses. */
-enum { RULES_MOST = 4096, STACK_BYTES = 1 << 22 };
+/* The rules kept of a corpus, which today has 5,506; and the stack lent to a call, far more than any of them uses. */
+enum { RULES_MOST = 8192, STACK_BYTES = 1 << 22 };
 
-typedef uint32_t (*call)(struct word_list rule);
+struct rule {
+    uint16_t version;
+    struct word_list list;
+};
+
+typedef uint32_t (*call)(struct rule rule);
 
 static uint16_t out[PEATNICKEL_IMAGE_WORDS];
 
-static uint32_t none(struct word_list rule)
+static uint32_t none(struct rule rule)
 {
     (void)rule;
     return 0;
 }
 
-static uint32_t our_check(struct word_list rule)
+static uint32_t our_check(struct rule rule)
 {
-    return peatnickel_check(rule.words, rule.count);
+    return peatnickel_check(rule.version, rule.list.words, rule.list.count);
 }
 
-static uint32_t our_measure(struct word_list rule)
+static uint32_t our_measure(struct rule rule)
 {
-    return peatnickel_measure(rule.words, rule.count);
+    return peatnickel_measure(rule.version, rule.list.words, rule.list.count);
 }
 
-static uint32_t our_write(struct word_list rule)
+static uint32_t our_write(struct rule rule)
 {
-    return peatnickel_write(out, PEATNICKEL_IMAGE_WORDS, rule.words, rule.count);
+    return peatnickel_write(out, PEATNICKEL_IMAGE_WORDS, rule.version, rule.list.words, rule.list.count);
 }
 
-static uint32_t peer_check(struct word_list rule)
+static uint32_t peer_check(struct rule rule)
 {
-    return number_of(check_rule(rule), 0);
+    return number_of(check_rule(rule.version, rule.list), 0);
 }
 
-static uint32_t peer_measure(struct word_list rule)
+static uint32_t peer_measure(struct rule rule)
 {
-    struct reply reply = measure_image(rule);
+    struct reply reply = measure_image(rule.version, rule.list);
 
     return number_of(reply.refusal, reply.count);
 }
 
-static uint32_t peer_write(struct word_list rule)
+static uint32_t peer_write(struct rule rule)
 {
-    struct reply reply = write_image(rule, out, PEATNICKEL_IMAGE_WORDS);
+    struct reply reply = write_image(rule.version, rule.list, out, PEATNICKEL_IMAGE_WORDS);
 
     return number_of(reply.refusal, reply.count);
 }
@@ -85,7 +90,7 @@ static call call_of(char side, char name)
     }
 }
 
-static struct word_list rules[RULES_MOST];
+static struct rule rules[RULES_MOST];
 static size_t rule_count;
 
 /* The records of a corpus, all or those that are accepted. A corpus of more than there is room for is none. */
@@ -97,31 +102,31 @@ static void read_corpus(const char *path, bool accepted_only)
     if (corpus == NULL)
         exit(EXIT_FAILURE);
     while (next_record(corpus)) {
-        struct word_list record = record_words(corpus);
-        uint16_t *words = malloc((record.count + 1) * sizeof *words);
+        struct rule rule = { record_version(corpus), record_words(corpus) };
+        uint16_t *words = malloc((rule.list.count + 1) * sizeof *words);
 
         if (words == NULL || rule_count == RULES_MOST)
             exit(EXIT_FAILURE);
-        memcpy(words, record.words, record.count * sizeof *words);
-        record.words = words;
-        if (!accepted_only || peer_check(record) == 0)
-            rules[rule_count++] = record;
+        memcpy(words, rule.list.words, rule.list.count * sizeof *words);
+        rule.list.words = words;
+        if (!accepted_only || peer_check(rule) == 0)
+            rules[rule_count++] = rule;
     }
     if (!close_corpus(corpus))
         exit(EXIT_FAILURE);
     fclose(in);
 }
 
-static struct word_list shape_words(const struct shape *shape, size_t words)
+static struct rule shape_rule(const struct shape *shape, size_t words)
 {
     static uint16_t room[PEATNICKEL_RULE_WORDS];
     struct word_sink sink = sink_into(room, PEATNICKEL_RULE_WORDS);
 
     shape->put(&sink, words);
-    return sink_words(&sink);
+    return (struct rule){ shape->version, sink_words(&sink) };
 }
 
-static bool same(struct word_list rule)
+static bool same(struct rule rule)
 {
     static uint16_t theirs[PEATNICKEL_IMAGE_WORDS];
     uint32_t count = peer_write(rule);
@@ -140,12 +145,12 @@ static int compare_all(const char *path)
         wrong += !same(rules[i]);
     for (size_t i = 0; i < GROWN_SHAPES; i++)
         for (size_t words = 64; words <= PEATNICKEL_RULE_WORDS; words *= 8) {
-            struct word_list rule = shape_words(&grown_shapes[i], words);
+            struct rule rule = shape_rule(&grown_shapes[i], words);
 
-            wrong += !same(rule) || rule.count != words || our_check(rule) != 0;
+            wrong += !same(rule) || rule.list.count != words || our_check(rule) != 0;
         }
     for (size_t i = 0; i < DEEP_SHAPES; i++) {
-        struct word_list rule = shape_words(&deep_shapes[i], PEATNICKEL_RULE_WORDS);
+        struct rule rule = shape_rule(&deep_shapes[i], PEATNICKEL_RULE_WORDS);
 
         wrong += !same(rule) || our_check(rule) != 0;
     }
@@ -160,7 +165,7 @@ static int count_words(const char *path)
 
     read_corpus(path, true);
     for (size_t i = 0; i < rule_count; i++) {
-        words += rules[i].count;
+        words += rules[i].list.count;
         image_words += peer_measure(rules[i]);
     }
     printf("%zu %zu %zu\n", rule_count, words, image_words);
@@ -177,7 +182,7 @@ static size_t stack_untouched;
 static ucontext_t here;
 static ucontext_t there;
 static call stack_call;
-static struct word_list stack_rule;
+static struct rule stack_rule;
 
 static void on_the_stack(void)
 {
@@ -189,7 +194,7 @@ static void on_the_stack(void)
     stack_untouched = untouched;
 }
 
-static size_t deepest_with(call function, struct word_list rule, unsigned char paint)
+static size_t deepest_with(call function, struct rule rule, unsigned char paint)
 {
     memset(stack, paint, sizeof stack);
     stack_paint = paint;
@@ -205,7 +210,7 @@ static size_t deepest_with(call function, struct word_list rule, unsigned char p
 }
 
 /* With two paints, for a byte may be written with the paint's own value. */
-static size_t deepest(call function, struct word_list rule)
+static size_t deepest(call function, struct rule rule)
 {
     size_t one = deepest_with(function, rule, 0xA5);
     size_t other = deepest_with(function, rule, 0x5A);
@@ -215,25 +220,26 @@ static size_t deepest(call function, struct word_list rule)
 
 static uint8_t file[PEATNICKEL_RULE_FILE_BYTES];
 
-static uint32_t our_pack(struct word_list rule)
+static uint32_t our_pack(struct rule rule)
 {
-    return peatnickel_pack(file, sizeof file, PEATNICKEL_RULES, rule.words, rule.count);
+    return peatnickel_pack(file, sizeof file, PEATNICKEL_RULES, rule.version, rule.list.words, rule.list.count);
 }
 
 /* Of the file that was packed last. */
-static uint32_t our_unpack(struct word_list rule)
+static uint32_t our_unpack(struct rule rule)
 {
-    return peatnickel_unpack(out, PEATNICKEL_IMAGE_WORDS, PEATNICKEL_RULES, file, PEATNICKEL_FILE_BYTES(rule.count));
+    return peatnickel_reply_of(peatnickel_unpack(out, PEATNICKEL_IMAGE_WORDS, PEATNICKEL_RULES, file,
+                                                 PEATNICKEL_FILE_BYTES(rule.list.count)));
 }
 
 static int show_stack(void)
 {
     for (size_t i = 0; i < DEEP_SHAPES; i++) {
-        struct word_list rule = shape_words(&deep_shapes[i], PEATNICKEL_RULE_WORDS);
+        struct rule rule = shape_rule(&deep_shapes[i], PEATNICKEL_RULE_WORDS);
         const call calls[] = { our_check, our_measure, our_write, our_pack, our_unpack, peer_write };
         size_t nothing = deepest(none, rule);
 
-        printf("%s|%zu", deep_shapes[i].name, rule.count);
+        printf("%s|%zu", deep_shapes[i].name, rule.list.count);
         for (size_t j = 0; j < sizeof calls / sizeof calls[0]; j++)
             printf("|%zu", deepest(calls[j], rule) - nothing);
         putchar('\n');
@@ -248,7 +254,7 @@ static int make_calls(char side, char name, const char *what, const char *detail
     if (strcmp(what, "corpus") == 0) {
         read_corpus(detail, true);
     } else {
-        rules[0] = shape_words(&grown_shapes[atoi(what)], (size_t)atoi(detail));
+        rules[0] = shape_rule(&grown_shapes[atoi(what)], (size_t)atoi(detail));
         rule_count = 1;
     }
     for (size_t i = 0; i < rule_count; i++)

@@ -1,5 +1,6 @@
 #include "shapes.h"
 
+#include "../peer/generators/gen_numbers.h"
 #include "../peer/generators/gen_record.h"
 #include "../peer/translator/rule.h"
 #include "../peer/translator/term.h"
@@ -15,6 +16,10 @@ enum {
     PARTS = 8,
     /* the words of the shortest let: its head and two leaves */
     LET_LEAST = 1 + 2 * LEAF,
+    /* the words of a number, and of the shortest operation on two */
+    NUMBER_LEAF = 1 + NUMBER_WORDS,
+    OPERATION_LEAST = 1 + OPERATION_PARTS * NUMBER_LEAF,
+    OPERATIONS = OPERATION_LESS + 1,
     /* half of the depth, so that there is depth left for the lets around the functions, seven at 4,096 words */
     TOWER_MOST = RULE_DEPTH_MOST / 2,
     /* all levels of the deepest rule but two, its outermost function and its innermost leaf */
@@ -151,11 +156,34 @@ static void put_surrounding(struct word_sink *sink, size_t words)
     put_call(sink);
 }
 
+/* A number within functions, so that there are so many words. */
+static void put_held_number(struct word_sink *sink, size_t words)
+{
+    for (; words > NUMBER_LEAF; words--)
+        put_kind(sink, KIND_FUNCTION, 1);
+    put_number(sink, (uint32_t)sink->count);
+}
+
+/* Operations of all three sorts, in turn by their words; a part that is too small for another is a number. */
+static void put_operations(struct word_sink *sink, size_t words)
+{
+    if (words < OPERATION_LEAST) {
+        put_held_number(sink, words);
+        return;
+    }
+    put_kind(sink, KIND_OPERATION, sink->count % OPERATIONS);
+    put_even(sink, put_operations, words - 1, OPERATION_PARTS);
+}
+
 const struct shape grown_shapes[GROWN_SHAPES] = {
-    { "calls", put_calls },         { "lets", put_lets },
-    { "matches", put_matches },     { "wide matches", put_wide_matches },
-    { "functions", put_functions }, { "nested constructors", put_constructors },
-    { "surrounding constructors", put_surrounding },
+    { "calls", VERSION_1, put_calls },
+    { "lets", VERSION_1, put_lets },
+    { "matches", VERSION_1, put_matches },
+    { "wide matches", VERSION_1, put_wide_matches },
+    { "functions", VERSION_1, put_functions },
+    { "nested constructors", VERSION_1, put_constructors },
+    { "surrounding constructors", VERSION_1, put_surrounding },
+    { "operations", VERSION_2, put_operations },
 };
 
 /* One argument of the outermost function, for leaves of one word. */
@@ -240,8 +268,24 @@ static void put_deep_matches(struct word_sink *sink, size_t most)
     put_variables(sink, 1);
 }
 
+/* Operations with a number before the next one, and a number in the innermost. */
+static void put_deep_operations(struct word_sink *sink, size_t most)
+{
+    (void)most;
+    put_opening(sink);
+    for (size_t i = 0; i < LEVELS; i++) {
+        put_kind(sink, KIND_OPERATION, i % OPERATIONS);
+        put_number(sink, (uint32_t)i);
+    }
+    put_number(sink, LEVELS);
+}
+
 const struct shape deep_shapes[DEEP_SHAPES] = {
-    { "functions", put_deep_functions }, { "lets", put_deep_lets },
-    { "calls", put_deep_calls },         { "constructors, atoms", put_deep_atoms },
-    { "constructors, not atoms", put_deep_constructors }, { "matches", put_deep_matches },
+    { "functions", VERSION_1, put_deep_functions },
+    { "lets", VERSION_1, put_deep_lets },
+    { "calls", VERSION_1, put_deep_calls },
+    { "constructors, atoms", VERSION_1, put_deep_atoms },
+    { "constructors, not atoms", VERSION_1, put_deep_constructors },
+    { "matches", VERSION_1, put_deep_matches },
+    { "operations", VERSION_2, put_deep_operations },
 };

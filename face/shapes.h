@@ -3,15 +3,17 @@
 #define FACE_SHAPES_H
 
 #include <stddef.h>
+#include <stdint.h>
 
 #include "../peer/translator/words.h"
 
 struct shape {
     const char *name;
+    uint16_t version;
     void (*put)(struct word_sink *sink, size_t words);
 };
 
-enum { GROWN_SHAPES = 7, DEEP_SHAPES = 6 };
+enum { GROWN_SHAPES = 8, DEEP_SHAPES = 7 };
 
 /* Rules of exactly so many words, from 64 on. Sizes that are eight times each other are made alike. */
 extern const struct shape grown_shapes[GROWN_SHAPES];
