@@ -92,8 +92,9 @@ fn variable_at(at: usize, index: usize, bound: usize) -> Step
     requires { ⌜ at < aWord ⌝ }
     ensures { λ r. ⌜ r ≡ termStep (cond (ltb index bound) (found (var index) (at + 1)) (fault 7 at)) ⌝ }
 {
+    let next = at + 1;
     if index < bound {
-        Step::Next(at + 1, true, VARIABLE_WORDS)
+        Step::Next(next, true, VARIABLE_WORDS)
     } else {
         Step::No(language::UNBOUND, at)
     }

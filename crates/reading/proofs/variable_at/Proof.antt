@@ -4,8 +4,8 @@ use Rattle.reading.proofs.Ways.{ways}
 use Rattle.reading.proofs.variable_at.Statement.{statement}
 use Rattle.reading.proofs.variable_at.Tie as tie
 
-add-t6 : tie.Need-add-t6
-add-t6 c = search ways
+add-next : tie.Need-add-next
+add-next c = search ways
 
 returns : tie.Need-returns
 returns c = search ways
@@ -14,4 +14,4 @@ returns-2 : tie.Need-returns-2
 returns-2 c = search ways
 
 pub variable-at-spec : {M : Type 1} → statement M
-variable-at-spec = tie.close (tie.spec add-t6 returns returns-2)
+variable-at-spec = tie.close (tie.spec add-next returns returns-2)
