@@ -17,33 +17,12 @@
 #include "number.h"
 #include "painted.h"
 #include "peatnickel.h"
+#include "written_out.h"
 
 enum {
     WRONG_WORD = 0xFFFF,        /* neither a head nor a second word; of a number it may be a part */
     LONGEST_IMAGE = 28671,      /* words of it, one less than seven times the 4,096 of its rule */
     KINDS_OF_VERSION_2 = 0x0A00 /* the lowest head of kinds 10 and 11; words that are higher follow one of these */
-};
-
-/* Rules of version 2 with their images, written out by the paper's chain. */
-static const struct image_case written_out[] = {
-    { "a number, written out", WORD_LIST(0x0A00, 0x1234, 0x5678),
-      WORD_LIST(0x0401, 0x0201, 0x0401, 0x0900, 0x0A00, 0x1234, 0x5678, 0x0201, 0x0900) },
-    { "an addition, written out", WORD_LIST(0x0B00, 0x0A00, 0x0000, 0x0002, 0x0A00, 0xFFFF, 0xFFFE),
-      WORD_LIST(0x0401,                                         /* the image calls */
-                0x0201, 0x0401,                                 /* of the chain, before its first term */
-                0x0201, 0x0401, 0x0900, 0x0A00, 0x0000, 0x0002, /* that number's passing form */
-                0x0201, 0x0401,                                 /* before its second term */
-                0x0201, 0x0401, 0x0900, 0x0A00, 0xFFFF, 0xFFFE, /* that number's passing form */
-                0x0201, 0x0401, 0x0902, 0x0B00, 0x0901, 0x0900, /* the ending: k_2 applied to the sum of k_1 and k_0 */
-                0x0201, 0x0900) },
-    { "what is less, written out", WORD_LIST(0x0201, 0x0B02, 0x0100, 0x0A00, 0x0A00, 0x0B00),
-      WORD_LIST(0x0401, 0x0201, 0x0401, 0x0900,                 /* the image calls, with a function, */
-                0x0202, 0x0401,                                 /* which has one argument more and calls */
-                0x0201, 0x0401, 0x0201, 0x0401, 0x0900, 0x0100, /* a chain: a variable, */
-                0x0201, 0x0401,                                 /* and a number, */
-                0x0201, 0x0401, 0x0900, 0x0A00, 0x0A00, 0x0B00, /* whose words are like heads; */
-                0x0201, 0x0401, 0x0902, 0x0B02, 0x0901, 0x0900, /* the ending */
-                0x0900, 0x0201, 0x0900) },
 };
 
 /* The image, from the second translator. */
@@ -168,7 +147,7 @@ static void numbers_and_operations(void)
 {
     accepted_rules(PEATNICKEL_LANGUAGE_2, number_accepted, NUMBER_ACCEPTED);
     written_images(PEATNICKEL_LANGUAGE_2, number_images, NUMBER_IMAGES);
-    written_images(PEATNICKEL_LANGUAGE_2, written_out, sizeof written_out / sizeof written_out[0]);
+    written_images(PEATNICKEL_LANGUAGE_2, written_out, WRITTEN_OUT);
     refused_rules(PEATNICKEL_LANGUAGE_2, number_refused, NUMBER_REFUSED);
     refused_rules(PEATNICKEL_LANGUAGE_1, number_refused_in_first, NUMBER_REFUSED_IN_FIRST);
     for (size_t i = 0; i < NUMBER_ACCEPTED; i++)

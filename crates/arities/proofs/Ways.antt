@@ -18,7 +18,7 @@ use Rattle.language.specs.declared.Row.{Row}
 use Rattle.language.specs.declared.Head.{Head}
 use Rattle.language.specs.declared.Head.the-variants.{Refused, Opens}
 use Rattle.language.proofs.Clash.{never}
-use Rattle.trust.proofs.Accepted.{holds-found, second-good, unlike-good}
+use Rattle.trust.proofs.Good.{holds-found, second-good, unlike-good}
 use Rattle.arities.specs.Marks.{markOf, arity, countOf}
 use Rattle.arities.specs.declared.Count.{Count}
 use Rattle.arities.specs.declared.Count.the-variants.{Is, Not}

@@ -13,7 +13,7 @@ use Rattle.language.specs.Read.{Got, found, fault, then, made, many, term}
 use Rattle.language.proofs.Clash.{never}
 use Rattle.sizes.specs.Lengths.{passingLength}
 use Rattle.sizes.proofs.Lengths.{by-test, of-con, of-con-unfinished}
-use Rattle.trust.proofs.Accepted.{Holds, held, left, Goodᵗ, many-good, term-good}
+use Rattle.trust.proofs.Good.{Holds, held, left, Goodᵗ, many-good, term-good}
 use Rattle.reading.specs.Steps.{constructorWords, savedWords, chainLength, stepOf, termStep, termsStep, grownOf, builtOf}
 use Rattle.reading.specs.declared.Step.{Step}
 use Rattle.reading.specs.declared.Step.the-variants.{Next, No}

@@ -22,7 +22,7 @@ use Rattle.language.specs.declared.Head.the-variants.{Opens}
 use Rattle.language.proofs.Clash.{never}
 use Rattle.sizes.proofs.Promises.{bound, bounds, boundᵃ, leasts}
 use Rattle.trust.proofs.Rows.{Opened, o-var, o-fun, o-rec, o-call, o-let, o-con, o-match, o-arm, o-num, o-op, passed}
-use Rattle.trust.proofs.Accepted.{Holds, held, left, Goodᵗ, term-good, many-good, arms-good}
+use Rattle.trust.proofs.Good.{Holds, held, left, Goodᵗ, term-good, many-good, arms-good}
 use Rattle.reading.specs.Steps.{aWord, small, chainLength, stepOf, termStep, termsStep, armsStep, FewArms, wordsOf, Roomy}
 use Rattle.reading.specs.declared.Step.{Step}
 use Rattle.reading.specs.declared.Step.the-variants.{Next}

@@ -1,5 +1,6 @@
 pub mod Live
 pub mod Rows
+pub mod Good
 pub mod Accepted
 pub mod Complete
 pub mod Versions
