@@ -23,7 +23,7 @@ use Rattle.rules.specs.Contracts.{Call}
 use Rattle.rules.proofs.Promises.{determined}
 use Rattle.peatnickel.specs.Numbers.{refusals, numberIn, placeIn, answerOf, checkedOf, versions, versedNumber, unpackedOf, refusalNumber}
 use Rattle.peatnickel.specs.Calls.{check, measure, write, pack, unpack, Formed, formed, formless}
-use Rattle.peatnickel.specs.Promises.{NumberDetermined, base, Returnable, counts, refuses, reports, NumbersRange}
+use Rattle.peatnickel.specs.Promises.{NumberDetermined, base, Reports, Returnable, done, refuses, NumbersRange}
 use Rattle.peatnickel.specs.declared.Told.{Told}
 use Rattle.peatnickel.proofs.Replies as replies
 use Rattle.peatnickel.proofs.Replies.{Fair, Any, Versed, succeeds, refused-as, fair-listed, Counted, checked-fair, measured-fair, written-counted, packing-counted, unpacking-counted}
@@ -105,38 +105,39 @@ number-determined (pack n v ws out) x y h k = same-formed same-number (λ f. det
 number-determined (unpack n bs out) x y h k = same-formed same-unpacked (λ f. determined (Call.unpack f bs out)) h k
 
 -- what a fair reply's number can be
-answer-range : {r : Reply ℕ} (n : ℕ) → Fair replies.Count r → replyOf (answerOf n) ≡ r → Returnable n
+answer-range : {r : Reply ℕ} (n : ℕ) → Fair replies.Count r → replyOf (answerOf n) ≡ r → Returnable replies.Count n
 unfolding replyOf number
 answer-range n f h = rw (← number-again n) (go (answerOf n) f h)
   where
-    go : (a : Answer) {r : Reply ℕ} → Fair replies.Count r → replyOf a ≡ r → Returnable (number a)
-    go (Count m) (succeeds {a = k} l) e = let z : m ≡ k = cc in counts {n = m} (omega arith)
+    go : (a : Answer) {r : Reply ℕ} → Fair replies.Count r → replyOf a ≡ r → Returnable replies.Count (number a)
+    go (Count m) (succeeds {a = k} l) e = let z : m ≡ k = cc in done {n = m} (rw z l)
     go (Count m) (refused-as l) e = never cc
     go (Refusal d i) f e = let l = fair-listed f (sym e) in refuses (l .number) (l .near)
 
-told-range : {o : Outcome ℕ} (n : ℕ) {out : List ℕ} → Counted replies.Count o → told (answerOf n) out ≡ o → Returnable n
+told-range : {o : Outcome ℕ} (n : ℕ) {out : List ℕ} → Counted replies.Count o → told (answerOf n) out ≡ o → Returnable replies.Count n
 told-range n c h = answer-range n (c .fair) (ap (λ q. q .reply) h)
 
-unpacked-range : {o : Outcome (ℕ × ℕ)} (n : ℕ) {out : List ℕ} → Counted Versed o → toldUnpacked (unpackedOf n) out ≡ o → Returnable n
+unpacked-range : {o : Outcome (ℕ × ℕ)} (n : ℕ) {out : List ℕ} → Counted Versed o → toldUnpacked (unpackedOf n) out ≡ o → Returnable Reports n
 unfolding unpackedReply unpacked-number
 unpacked-range n c h = rw (← unpacked-again n) (go (unpackedOf n) (c .fair) (ap (λ q. q .reply) h))
   where
-    go : (a : Unpacked) {r : Reply (ℕ × ℕ)} → Fair Versed r → unpackedReply a ≡ r → Returnable (unpacked-number a)
+    go : (a : Unpacked) {r : Reply (ℕ × ℕ)} → Fair Versed r → unpackedReply a ≡ r → Returnable Reports (unpacked-number a)
     go (unpacked.Words v m) (succeeds {a = k} l) e =
-        let z : (v, m) ≡ k = cc in reports v m (rw (ap (λ x. x .0) z) (l .0)) (rw (ap (λ x. x .1) z) (l .1))
+        let z : (v, m) ≡ k = cc in
+        done record { version = v; count = m; is = refl; versed = rw (ap (λ x. x .0) z) (l .0); below = rw (ap (λ x. x .1) z) (l .1) }
     go (unpacked.Words v m) (refused-as l) e = never cc
     go (unpacked.Refusal d i) f e = let l = fair-listed f (sym e) in refuses (l .number) (l .near)
 
-check-range : {r : Reply (Unit {0})} (n : ℕ) → Fair Any r → checkedReply (checkedOf n) ≡ r → Returnable n
+check-range : {r : Reply (Unit {0})} (n : ℕ) → Fair Any r → checkedReply (checkedOf n) ≡ r → Returnable (λ m. m ≡ 0) n
 unfolding checkedReply check-number
 check-range n f h = rw (← check-number-again n (rw h f)) (go (checkedOf n) f h)
   where
-    go : (a : Checked) {r : Reply (Unit {0})} → Fair Any r → checkedReply a ≡ r → Returnable (check-number a)
-    go checking.Success f e = counts {n = 0} (omega arith)
+    go : (a : Checked) {r : Reply (Unit {0})} → Fair Any r → checkedReply a ≡ r → Returnable (λ m. m ≡ 0) (check-number a)
+    go checking.Success f e = done refl
     go (checking.Refusal d i) f e = let l = fair-listed f (sym e) in refuses (l .number) (l .near)
 
-formed-range : {B : Type 0} {t : Told} {mean : ℕ → B} {A : Form → B × List ℕ → Type 0} {out : List ℕ} {r : ℕ × List ℕ}
-    → ((f : Form) → A f (mean (r .0), r .1) → Returnable (r .0)) → Formed t mean A out r → Returnable (r .0)
+formed-range : {Q : ℕ → Type 0} {B : Type 0} {t : Told} {mean : ℕ → B} {A : Form → B × List ℕ → Type 0} {out : List ℕ} {r : ℕ × List ℕ}
+    → ((f : Form) → A f (mean (r .0), r .1) → Returnable Q (r .0)) → Formed t mean A out r → Returnable Q (r .0)
 formed-range k (formed f p a) = k f a
 formed-range k (formless p n o) = rw n (refuses {e = 0} {p = 0} (base {e = 0} (omega arith)) (omega arith))
 

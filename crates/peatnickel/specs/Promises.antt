@@ -29,12 +29,27 @@ pub data Number : ℕ → Type 0 where
   base : {e : ℕ} → e ≤ lastRefusal → Number e
   of-word : {e : ℕ} → OfWord e → Number e
 
--- a count, or a refusal at a place that a rule can have; and from unpacking a count with a version that there is
-pub data Returnable : ℕ → Type 0 where
-  counts : {n : ℕ} → n < refusals → Returnable n
-  refuses : {e p : ℕ} → Number e → p ≤ mostWords → Returnable (refusalNumber e p)
-  reports : (v n : ℕ) → known v ≡ true → n < refusals → Returnable (versedNumber v n)
+-- the number n is a count with a version that there is above it
+pub record Reports (n : ℕ) : Type 0 where
+  pub version : ℕ
+  pub count : ℕ
+  pub is : n ≡ versedNumber version count
+  pub versed : known version ≡ true
+  pub below : count < refusals
+
+-- what a call returns where it succeeds: checking 0; measuring, writing and packing a count; unpacking a count with a version
+abbrev pub Succeeds : Asked → ℕ → Type 0
+Succeeds (check S ws) n = n ≡ 0
+Succeeds (measure S ws) n = n < refusals
+Succeeds (write S ws out) n = n < refusals
+Succeeds (pack k v ws out) n = n < refusals
+Succeeds (unpack k bs out) n = Reports n
+
+-- a number of which Q holds, or a refusal at a place that a rule can have
+pub data Returnable (Q : ℕ → Type 0) : ℕ → Type 0 where
+  done : {n : ℕ} → Q n → Returnable Q n
+  refuses : {e p : ℕ} → Number e → p ≤ mostWords → Returnable Q (refusalNumber e p)
 
 -- no other number is ever returned
 abbrev pub NumbersRange : Type 0
-NumbersRange = (c : Asked) (r : Returned c) → Means c r → Returnable (numberOf c r)
+NumbersRange = (c : Asked) (r : Returned c) → Means c r → Returnable (Succeeds c) (numberOf c r)
