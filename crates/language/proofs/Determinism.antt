@@ -68,6 +68,10 @@ mutual
       let (p', q') = along s (match_same ps k k' p) (λ x. same_run s x) s' in
       (p', λ i. uses 0 0 0 1 0 ⊕ q i ⊕ q' i)
   same_run (operated r g) (operated r' g') = let (p, q) = same_runs r r' in (gives_same g g' p, λ i. uses 0 0 0 0 1 ⊕ q i)
+  same_run (bound r s) (taken y) = elim y [ ]
+  same_run (called f r e s) (taken y) = elim y [ ]
+  same_run (matched r k s) (taken y) = elim y [ ]
+  same_run (operated r g) (taken y) = elim y [ ]
 
   pub same_runs : {L : Lang} {ts vs vs' : Terms} (r : Runs L ts vs) (r' : Runs L ts vs') → (vs ≡ vs') × (counts r ≡ counts r')
   same_runs done done = (refl, refl)

@@ -1,4 +1,5 @@
 // The kinds of head words, in the one table that every reader consults, and the limits of rules and images.
+#![tactic(auto)]
 ghost use Rattle.std.specs.Prelude.{◌≡◌};
 ghost use Rattle.language.specs.Kinds.{known, row_of, head_of};
 
@@ -69,7 +70,7 @@ pub const AT_TERM: u8 = 1;
 pub const AT_ARM: u8 = 2;
 
 // What follows a head word.
-#[derive(Drop)]
+#[derive(Clone, Copy)]
 pub enum Parts {
     Nothing,
     Body,
@@ -84,7 +85,7 @@ pub enum Parts {
 
 // A kind of head word: the first and the last version in which it stands in rules; where it may stand; its lowest and highest low byte;
 // how many source variables its body has besides the arguments (a recursive function's name, the let's value); what follows it.
-#[derive(Drop)]
+#[derive(Clone, Copy)]
 pub struct Row {
     pub first: u8,
     pub last: u8,
@@ -212,14 +213,14 @@ const KINDS: [Row; KINDS_COUNT] = [
 ];
 
 // What is found at a head word: a refusal's number, or the row of its kind.
-#[derive(Drop)]
+#[derive(Clone, Copy)]
 pub enum Head {
     Refused(u8),
     Opens(Row),
 }
 
 // A call's reply: the count that success gives; or a refusal's number, and the place of the word tested.
-#[derive(Drop)]
+#[derive(Clone, Copy)]
 pub enum Answer {
     Count(usize),
     Refusal(u8, usize),
@@ -233,6 +234,7 @@ pub fn is_known(version: u16) -> bool
 }
 
 // The row of a head word's kind. At constant places the table takes no instructions: at one that is computed it would be made anew at each call.
+#[tactic(auto, using(crate::proofs::Heads::row_of_kind, crate::proofs::Heads::row_of_rest))]
 pub fn row_of(w: u16) -> Row
     ensures { result ≡ row_of w }
 {
@@ -254,6 +256,7 @@ pub fn row_of(w: u16) -> Row
 }
 
 // What the word w is as a head in a version, where one that stands at q is asked for: its kind is tested first, then its low byte.
+#[tactic(auto, using(crate::proofs::Heads::ways))]
 pub fn look(version: u8, q: u8, w: u16) -> Head
     ensures { result ≡ head_of version q w }
 {

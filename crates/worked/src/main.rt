@@ -1,4 +1,5 @@
 // Answers the worked rules by file, as the bench program would, each after its name: 1a.lrs, 1b.lrs and so on, then 2a.lrs and on. The first sign is
+#![tactic(auto)]
 // the version that the files of a set are about.
 use libc::STDOUT_FILENO;
 
