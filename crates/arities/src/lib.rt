@@ -9,7 +9,7 @@ ghost use Rattle.arities.specs.Marks.{mark_of, unmarked, arity, count_of};
 use language::{Head, LOW_BYTE};
 
 // What reading a second word gives: a count and the place after it; or a refusal's number and its place.
-#[derive(Drop)]
+#[derive(Clone, Copy)]
 pub enum Count {
     Is(u16, usize),
     Not(u8, usize),

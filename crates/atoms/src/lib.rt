@@ -34,7 +34,7 @@ pub fn count_at(s: &[u16], at: usize, depth: usize) -> usize
 }
 
 // What a head opens: its form, the words of its own, and how many pieces, terms or arms, stand behind them.
-#[derive(Drop)]
+#[derive(Clone, Copy)]
 pub struct Opening {
     pub parts: Parts,
     pub words: usize,
@@ -42,7 +42,7 @@ pub struct Opening {
 }
 
 // What is left of a test after a head: so many pieces to be passed over, and then so many terms that must be atoms; or that one is none.
-#[derive(Drop)]
+#[derive(Clone, Copy)]
 enum Rest {
     Left(usize, usize),
     NoAtom,

@@ -37,7 +37,7 @@ const COUNT_LAST: usize = 1;
 const HIGHEST: usize = 0xFFFF_FFFF_FFFF_FFFF;
 
 // The highest grade of some values, and the place of their last word when they are written behind a constructor's head and count.
-#[derive(Drop)]
+#[derive(Clone, Copy)]
 struct Sum {
     grade: u32,
     last: usize,

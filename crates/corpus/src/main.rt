@@ -30,14 +30,14 @@ const SHORT_TEXT: usize = WORD_TEXT * SHORT_IMAGE;
 const MODULUS: u32 = 65521;
 
 // The two sums of a checksum: of the words, and of those sums.
-#[derive(Drop)]
+#[derive(Clone, Copy)]
 struct Sums {
     low: u32,
     high: u32,
 }
 
 // The place after a record, and whether its report could be written.
-#[derive(Drop)]
+#[derive(Clone, Copy)]
 struct Reported {
     next: usize,
     written: bool,

@@ -16,7 +16,7 @@ const MOST_BYTES: usize = 8199;
 const MOST_TEXT: usize = 9 + 5 * language::MOST_IMAGE_WORDS;
 
 // What came of reading a file: so many bytes at the front of the buffer, or a failure.
-#[derive(Drop)]
+#[derive(Clone, Copy)]
 pub enum Input {
     Arrived(usize),
     Failed,

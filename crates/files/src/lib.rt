@@ -9,14 +9,14 @@ ghost use Rattle.files.specs.Files.{third, most, header, bytes_of, marked, word_
 use language::Answer;
 
 // What a file holds.
-#[derive(Drop)]
+#[derive(Clone, Copy)]
 pub enum Form {
     Rules,
     Images,
 }
 
 // What unpacking gives: the version that the file carries, and how many words; or a refusal's number and its place.
-#[derive(Drop)]
+#[derive(Clone, Copy)]
 pub enum Unpacked {
     Words(u16, usize),
     Refusal(u8, usize),

@@ -30,7 +30,7 @@ const RULES: u32 = 0;
 const IMAGES: u32 = 1;
 
 // What a number tells of a file.
-#[derive(Drop)]
+#[derive(Clone, Copy)]
 enum Told {
     Is(Form),
     NoForm,

@@ -41,14 +41,14 @@ const SAVED_WORDS: usize = 6;
 
 // What reading a thing gives: the place after it, whether it is all atoms, and its words in an image (of a term the passing
 // form's, of a list the chain's); or a refusal's number and its place.
-#[derive(Drop)]
+#[derive(Clone, Copy)]
 enum Step {
     Next(usize, bool, usize),
     No(u8, usize),
 }
 
 // The checking call's reply: success; or a refusal's number and its place.
-#[derive(Drop)]
+#[derive(Clone, Copy)]
 pub enum Checked {
     Success,
     Refusal(u8, usize),
@@ -264,7 +264,7 @@ fn ended_at(s: &[u16], at: usize, step: Step) -> Step
 }
 
 // A reading place: the lent table, and the place of its next word.
-#[derive(Drop)]
+#[derive(Clone, Copy)]
 struct Reader<'a> {
     table: &'a [u16],
     next: usize,

@@ -121,7 +121,7 @@ fn put_links(records: &mut [u32], at: usize, first: usize, second: usize) -> usi
 }
 
 // A record that was taken, and the first free word after it; or none was left.
-#[derive(Drop)]
+#[derive(Clone, Copy)]
 pub enum Taken {
     At(usize, usize),
     Full,

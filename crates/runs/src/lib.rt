@@ -8,10 +8,10 @@ ghost use Rattle.language.specs.Image.{downto, calling, making, working};
 ghost use Rattle.runs.specs.Runs.{Room, Put};
 
 // A source variable's index, and a continuation variable's: no function takes one for the other.
-#[derive(Drop)]
+#[derive(Clone, Copy)]
 pub struct Source(pub u8);
 
-#[derive(Drop)]
+#[derive(Clone, Copy)]
 pub struct Continuation(pub u8);
 
 // The head words that an image adds. A variable's index, a call's arguments, a constructor's tag, or the operation, is added to its head.

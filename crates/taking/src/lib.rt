@@ -23,14 +23,14 @@ const WORD_END: u32 = 65536;
 const MOST_VALUES: usize = 17;
 
 // What is bound where a term stands: to continuation variables and to source variables, each the binding made last.
-#[derive(Drop)]
+#[derive(Clone, Copy)]
 pub struct Bound {
     pub continuations: usize,
     pub sources: usize,
 }
 
 // The first free word of the records after some values; or no record was left.
-#[derive(Drop)]
+#[derive(Clone, Copy)]
 pub enum Took {
     Free(usize),
     Full,

@@ -17,7 +17,7 @@ const HIGH: usize = 1;
 const LOW: usize = 2;
 
 // The next word to read, and the next to write.
-#[derive(Drop)]
+#[derive(Clone, Copy)]
 pub struct Places {
     pub at: usize,
     pub pos: usize,
