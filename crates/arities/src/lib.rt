@@ -16,6 +16,7 @@ pub enum Count {
 }
 
 // A second word: how many arguments.
+#[tactic(auto, using(crate::proofs::Ways::ways))]
 pub fn second_at(s: &[u16], at: usize) -> Count
     ensures { result ≡ count_of (second s.now at) }
 {
@@ -37,6 +38,7 @@ pub fn mark(w: u16, m: u16) -> u16
 }
 
 // Whether one of the marks is this one.
+#[tactic(auto, using(crate::proofs::Marks::looking))]
 fn is_among(x: u16, marks: &[u16]) -> bool
     ensures { result ≡ dead (x / 256) (x % 256) (unmarked marks.now) }
 {
@@ -51,6 +53,7 @@ fn is_among(x: u16, marks: &[u16]) -> bool
 }
 
 // The second word of an arm with the head w, its arity; the arms before it in its match have these marks.
+#[tactic(auto, using(crate::proofs::Ways::ways))]
 fn unlike_at(s: &[u16], at: usize, w: u16, marks: &[u16]) -> Count
     ensures { result ≡ count_of (unlike s.now (unmarked marks.now) (w % 256) at) }
 {
@@ -67,6 +70,7 @@ fn unlike_at(s: &[u16], at: usize, w: u16, marks: &[u16]) -> Count
 }
 
 // An arm's two words: its arity.
+#[tactic(auto, using(crate::proofs::Ways::ways))]
 pub fn arity_at(version: u8, s: &[u16], at: usize, marks: &[u16]) -> Count
     ensures { result ≡ count_of (arity (in_version version) s.now (unmarked marks.now) at) }
 {
