@@ -8,7 +8,7 @@ use mathlib.Core.Bool.{Bool, true, false, ◌&&◌, and_assoc, and-true}
 use mathlib.Core.List.{List, ◌∷◌}
 use native.Mathlib.Omega.{arith}
 use lib.ListN.{length, get_or}
-use borrow.Author.Rules.{rules}
+use borrow.Author.Rules.{rules as bounds}
 use borrow.Author.Tests.{lt-ltb}
 use Rattle.language.specs.Term.{rules, Term, Terms, Arms, size, sizeᵃ}
 use Rattle.language.specs.Kinds.{most_byte, row_at}
@@ -167,4 +167,4 @@ module _ {d : ℕ} {s : List ℕ} {at : ℕ} (k : Stands (term d) s at) where
       pub no_atom : r ≡ NoAtom → AtomAt d s at false
       no_atom e = record { is = λ t y x. sym (says_no (g.each t y x) (omega arith) (after e)) }
 
-pub ruleset passes = (begins, head_there, all_tested, goes_on, no_atom, rules)
+pub ruleset passes = (begins, head_there, all_tested, goes_on, no_atom, bounds)

@@ -6,7 +6,7 @@ use mathlib.Core.Path.{◌≡◌, refl}
 use mathlib.Core.Bool.{true, false}
 use mathlib.Core.List.{List, [], ◌∷◌}
 use native.Mathlib.Omega.{arith}
-use borrow.Author.Rules.{rules}
+use borrow.Author.Rules.{rules as bounds}
 use lib.ListN.{length, get_or, length-append}
 use Rattle.language.specs.Term.{rules, images, Term}
 use Rattle.language.specs.Words.{head, words}
@@ -389,5 +389,5 @@ pub ruleset ways = (
   keeps_next,
   arm_next,
   arms_next,
-  rules,
+  bounds,
 )
