@@ -49,6 +49,7 @@ enum Rest {
 }
 
 // The words of a head of this form: a constructor's and an arm's have a count, a number's has the number.
+#[tactic(auto, unfolding(crate::specs::Openings::head_words))]
 fn head_words(parts: Parts) -> usize
     ensures { result ≡ head_words parts }
 {
@@ -66,6 +67,7 @@ fn head_words(parts: Parts) -> usize
 }
 
 // How many pieces stand behind the head at `at`, which has this form.
+#[tactic(auto, unfolding(crate::specs::Openings::pieces_at, crate::specs::Openings::pieces_of))]
 fn pieces_at(s: &[u16], at: usize, parts: Parts) -> u16
     requires { Whole parts s.now at }
     ensures { result ≡ pieces_at parts s.now at }
@@ -102,6 +104,7 @@ pub fn opening_at(s: &[u16], at: usize) -> Opening
 
 // What is left after a head, where `inside` pieces were to be passed over and then `atoms` terms to be tested. A function is an
 // atom whatever its body is: the body is passed over.
+#[tactic(auto, using(crate::proofs::Ways::openings), unfolding(crate::specs::Openings::tested))]
 fn rest_after(head: Opening, inside: usize, atoms: usize) -> Rest
     requires { Countable inside atoms }
     ensures { result ≡ rest_after head inside atoms }

@@ -1,0 +1,18 @@
+-- `atoms::is_atom` meets its contract. The loop keeps: the pass, gone on from here, answers whether the term is an atom.
+use Rattle.atoms.proofs.Pass.{passes}
+use Rattle.atoms.proofs.is_atom.Goals as goal
+
+pub loop-atoms_left-init : goal.loop-atoms_left-init
+loop-atoms_left-init c = search passes
+
+pub opening_at-head-requires : goal.opening_at-head-requires
+opening_at-head-requires c = search passes
+
+pub returns-in-NoAtom : goal.returns-in-NoAtom
+returns-in-NoAtom c = search passes
+
+pub loop-atoms_left-preserved : goal.loop-atoms_left-preserved
+loop-atoms_left-preserved c = search passes
+
+pub returns : goal.returns
+returns c = search passes
