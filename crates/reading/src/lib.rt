@@ -108,7 +108,7 @@ fn number_at(s: &[u16], at: usize) -> Step
 }
 
 // A term in version v, with so many levels of depth left, under so many source variables.
-#[cycle(arms_at_opened_at_term_at_terms_at)]
+#[cycle(terms)]
 fn term_at(v: u8, s: &[u16], at: usize, left: usize, bound: usize) -> Step
     requires { (length s.now ≤ a_word) × (bound + a_word * left ≤ small) }
     ensures { result ≡ term_step (term (in_version v) s.now left bound at) }
@@ -127,7 +127,7 @@ fn term_at(v: u8, s: &[u16], at: usize, left: usize, bound: usize) -> Step
 }
 
 // The term whose head, at this place, has this low byte and this row; its parts have so many levels of depth left.
-#[cycle(arms_at_opened_at_term_at_terms_at)]
+#[cycle(terms)]
 fn opened_at(v: u8, s: &[u16], at: usize, left: usize, bound: usize, low: usize, row: Row) -> Step
     requires { (length s.now ≤ a_word) × (bound + a_word * (left + 1) ≤ small) × (at < length s.now) × (low ≤ most_byte) × (row.binds ≤ 1)
         × FewArms row.parts low }
@@ -169,7 +169,7 @@ fn opened_at(v: u8, s: &[u16], at: usize, left: usize, bound: usize, low: usize,
 }
 
 // So many terms, one after the other.
-#[cycle(arms_at_opened_at_term_at_terms_at)]
+#[cycle(terms)]
 fn terms_at(v: u8, s: &[u16], at: usize, left: usize, bound: usize, count: usize) -> Step
     requires { (length s.now ≤ a_word) × (bound + a_word * left ≤ small) × (count < a_word) }
     ensures { result ≡ terms_step (many (term (in_version v) s.now left bound) count at) }
@@ -193,7 +193,7 @@ fn terms_at(v: u8, s: &[u16], at: usize, left: usize, bound: usize, count: usize
 }
 
 // The arms of a match, so many. Each arm's mark is kept for those behind it.
-#[cycle(arms_at_opened_at_term_at_terms_at)]
+#[cycle(terms)]
 fn arms_at(v: u8, s: &[u16], at: usize, left: usize, bound: usize, count: usize) -> Step
     requires { (length s.now ≤ a_word) × (bound + a_word * (left + 1) ≤ small) × (count ≤ most_arms) }
     ensures { result ≡ arms_step (arms_of (in_version v) s.now (term (in_version v) s.now left) [] bound count at) }

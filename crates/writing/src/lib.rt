@@ -24,7 +24,7 @@ pub struct Places {
 }
 
 // The passing form of the term at `at`, which has at most `depth` levels.
-#[cycle(put_arms_put_atom_put_build_put_call_put_carried_put_carrieds_put_chain_put_constructor_put_function_put_handed_put_let_put_link_put_match_put_operation_put_passing)]
+#[cycle(forms)]
 fn put_passing(out: &mut [u16], pos: usize, s: &[u16], at: usize, depth: usize) -> Places
     requires { Ready (passed depth) out.old pos s.now at }
     ensures { Done (passed depth) out.old pos s.now at out.new result.at result.pos }
@@ -49,7 +49,7 @@ fn put_passing(out: &mut [u16], pos: usize, s: &[u16], at: usize, depth: usize) 
 }
 
 // The passing form of an atom.
-#[cycle(put_arms_put_atom_put_build_put_call_put_carried_put_carrieds_put_chain_put_constructor_put_function_put_handed_put_let_put_link_put_match_put_operation_put_passing)]
+#[cycle(forms)]
 fn put_atom(out: &mut [u16], pos: usize, s: &[u16], at: usize, depth: usize) -> Places
     requires { Ready (passed depth) out.old pos s.now at × AtomAt depth s.now at true }
     ensures { Done (passed depth) out.old pos s.now at out.new result.at result.pos }
@@ -59,7 +59,7 @@ fn put_atom(out: &mut [u16], pos: usize, s: &[u16], at: usize, depth: usize) -> 
 }
 
 // The passing form of a call.
-#[cycle(put_arms_put_atom_put_build_put_call_put_carried_put_carrieds_put_chain_put_constructor_put_function_put_handed_put_let_put_link_put_match_put_operation_put_passing)]
+#[cycle(forms)]
 fn put_call(out: &mut [u16], pos: usize, s: &[u16], at: usize, depth: usize) -> Places
     requires { Ready (passed depth) out.old pos s.now at × Parted FunctionAndArguments depth s.now at }
     ensures { Done (passed depth) out.old pos s.now at out.new result.at result.pos }
@@ -71,7 +71,7 @@ fn put_call(out: &mut [u16], pos: usize, s: &[u16], at: usize, depth: usize) -> 
 }
 
 // The passing form of a let: inside the added function, k_0 is the value and k_1 the continuation.
-#[cycle(put_arms_put_atom_put_build_put_call_put_carried_put_carrieds_put_chain_put_constructor_put_function_put_handed_put_let_put_link_put_match_put_operation_put_passing)]
+#[cycle(forms)]
 fn put_let(out: &mut [u16], pos: usize, s: &[u16], at: usize, depth: usize) -> Places
     requires { Ready (passed depth) out.old pos s.now at × Parted BoundAndBody depth s.now at }
     ensures { Done (passed depth) out.old pos s.now at out.new result.at result.pos }
@@ -82,7 +82,7 @@ fn put_let(out: &mut [u16], pos: usize, s: &[u16], at: usize, depth: usize) -> P
 }
 
 // The passing form of a constructor that is no atom.
-#[cycle(put_arms_put_atom_put_build_put_call_put_carried_put_carrieds_put_chain_put_constructor_put_function_put_handed_put_let_put_link_put_match_put_operation_put_passing)]
+#[cycle(forms)]
 fn put_build(out: &mut [u16], pos: usize, s: &[u16], at: usize, depth: usize) -> Places
     requires { Ready (passed depth) out.old pos s.now at × Parted CountAndArguments depth s.now at × AtomAt depth s.now at false }
     ensures { Done (passed depth) out.old pos s.now at out.new result.at result.pos }
@@ -95,7 +95,7 @@ fn put_build(out: &mut [u16], pos: usize, s: &[u16], at: usize, depth: usize) ->
 }
 
 // The passing form of an operation: that of a constructor that is no atom, but for its one word.
-#[cycle(put_arms_put_atom_put_build_put_call_put_carried_put_carrieds_put_chain_put_constructor_put_function_put_handed_put_let_put_link_put_match_put_operation_put_passing)]
+#[cycle(forms)]
 fn put_operation(out: &mut [u16], pos: usize, s: &[u16], at: usize, depth: usize) -> Places
     requires { Ready (passed depth) out.old pos s.now at × Parted TwoParts depth s.now at }
     ensures { Done (passed depth) out.old pos s.now at out.new result.at result.pos }
@@ -107,7 +107,7 @@ fn put_operation(out: &mut [u16], pos: usize, s: &[u16], at: usize, depth: usize
 }
 
 // The passing form of a match.
-#[cycle(put_arms_put_atom_put_build_put_call_put_carried_put_carrieds_put_chain_put_constructor_put_function_put_handed_put_let_put_link_put_match_put_operation_put_passing)]
+#[cycle(forms)]
 fn put_match(out: &mut [u16], pos: usize, s: &[u16], at: usize, depth: usize) -> Places
     requires { Ready (passed depth) out.old pos s.now at × Parted SubjectAndArms depth s.now at }
     ensures { Done (passed depth) out.old pos s.now at out.new result.at result.pos }
@@ -119,7 +119,7 @@ fn put_match(out: &mut [u16], pos: usize, s: &[u16], at: usize, depth: usize) ->
 }
 
 // An added function, and a call in it of the passing form of the term at `at`.
-#[cycle(put_arms_put_atom_put_build_put_call_put_carried_put_carrieds_put_chain_put_constructor_put_function_put_handed_put_let_put_link_put_match_put_operation_put_passing)]
+#[cycle(forms)]
 fn put_link(out: &mut [u16], pos: usize, s: &[u16], at: usize, depth: usize) -> Places
     requires { Ready (linked depth) out.old pos s.now at }
     ensures { Done (linked depth) out.old pos s.now at out.new result.at result.pos }
@@ -129,7 +129,7 @@ fn put_link(out: &mut [u16], pos: usize, s: &[u16], at: usize, depth: usize) -> 
 }
 
 // A call of the passing form of the term at `at`, which is handed k.
-#[cycle(put_arms_put_atom_put_build_put_call_put_carried_put_carrieds_put_chain_put_constructor_put_function_put_handed_put_let_put_link_put_match_put_operation_put_passing)]
+#[cycle(forms)]
 fn put_handed(
     out: &mut [u16],
     pos: usize,
@@ -148,7 +148,7 @@ fn put_handed(
 }
 
 // The carried form of the atom at `at`.
-#[cycle(put_arms_put_atom_put_build_put_call_put_carried_put_carrieds_put_chain_put_constructor_put_function_put_handed_put_let_put_link_put_match_put_operation_put_passing)]
+#[cycle(forms)]
 fn put_carried(out: &mut [u16], pos: usize, s: &[u16], at: usize, depth: usize) -> Places
     requires { Ready (kept depth) out.old pos s.now at }
     ensures { Done (kept depth) out.old pos s.now at out.new result.at result.pos }
@@ -183,7 +183,7 @@ fn put_number(out: &mut [u16], pos: usize, s: &[u16], at: usize, depth: usize) -
 }
 
 // The carried form of a function, recursive or not: it has one argument more.
-#[cycle(put_arms_put_atom_put_build_put_call_put_carried_put_carrieds_put_chain_put_constructor_put_function_put_handed_put_let_put_link_put_match_put_operation_put_passing)]
+#[cycle(forms)]
 fn put_function(out: &mut [u16], pos: usize, s: &[u16], at: usize, depth: usize) -> Places
     requires { Ready (kept depth) out.old pos s.now at × Parted Body depth s.now at }
     ensures { Done (kept depth) out.old pos s.now at out.new result.at result.pos }
@@ -193,7 +193,7 @@ fn put_function(out: &mut [u16], pos: usize, s: &[u16], at: usize, depth: usize)
 }
 
 // The carried form of a constructor of atoms.
-#[cycle(put_arms_put_atom_put_build_put_call_put_carried_put_carrieds_put_chain_put_constructor_put_function_put_handed_put_let_put_link_put_match_put_operation_put_passing)]
+#[cycle(forms)]
 fn put_constructor(out: &mut [u16], pos: usize, s: &[u16], at: usize, depth: usize) -> Places
     requires { Ready (kept depth) out.old pos s.now at × Parted CountAndArguments depth s.now at }
     ensures { Done (kept depth) out.old pos s.now at out.new result.at result.pos }
@@ -204,7 +204,7 @@ fn put_constructor(out: &mut [u16], pos: usize, s: &[u16], at: usize, depth: usi
 }
 
 // The carried forms of the `count` atoms at `at`.
-#[cycle(put_arms_put_atom_put_build_put_call_put_carried_put_carrieds_put_chain_put_constructor_put_function_put_handed_put_let_put_link_put_match_put_operation_put_passing)]
+#[cycle(forms)]
 fn put_carrieds(
     out: &mut [u16],
     pos: usize,
@@ -226,7 +226,7 @@ fn put_carrieds(
 }
 
 // The chain over the `count` terms at `at`, without its end.
-#[cycle(put_arms_put_atom_put_build_put_call_put_carried_put_carrieds_put_chain_put_constructor_put_function_put_handed_put_let_put_link_put_match_put_operation_put_passing)]
+#[cycle(forms)]
 fn put_chain(
     out: &mut [u16],
     pos: usize,
@@ -248,7 +248,7 @@ fn put_chain(
 }
 
 // The `count` arms at `at`, each with its two words: its body is handed k_1.
-#[cycle(put_arms_put_atom_put_build_put_call_put_carried_put_carrieds_put_chain_put_constructor_put_function_put_handed_put_let_put_link_put_match_put_operation_put_passing)]
+#[cycle(forms)]
 fn put_arms(out: &mut [u16], pos: usize, s: &[u16], at: usize, depth: usize, count: usize) -> Places
     requires { Ready (branches depth count) out.old pos s.now at }
     ensures { Done (branches depth count) out.old pos s.now at out.new result.at result.pos }
