@@ -19,7 +19,7 @@ use Rattle.files.specs.Files.{unpacked_reply, told_unpacked}
 use Rattle.files.specs.declared.Form.{Form}
 use Rattle.files.specs.declared.Unpacked.{Unpacked}
 use Rattle.files.specs.declared.Unpacked.TheVariants as unpacked
-use Rattle.rules.specs.Contracts.{Call}
+use Rattle.rules.specs.PublicCalls.{Call}
 use Rattle.rules.proofs.Promises.{determined}
 use Rattle.peatnickel.specs.Numbers.{refusals, number_in, place_in, answer_of, checked_of, versions, versed_number, unpacked_of, refusal_number}
 use Rattle.peatnickel.specs.Calls.{check, measure, write, pack, unpack, Formed, formed, formless}

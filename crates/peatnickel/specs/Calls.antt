@@ -2,7 +2,7 @@
 -- contract allows; the code's contracts cite it.
 use Rattle.std.specs.Prelude.{ℕ, ◌≡◌, List}
 use Rattle.language.specs.Setting.{Setting}
-use Rattle.rules.specs.Contracts.{Call, Allows}
+use Rattle.rules.specs.PublicCalls.{Call, Allows}
 use Rattle.files.specs.declared.Form.{Form}
 use Rattle.peatnickel.specs.Numbers.{answer_of, checked_of, unpacked_of, form_of, no_form}
 use Rattle.peatnickel.specs.declared.Told.{Told}

@@ -30,7 +30,7 @@ use Rattle.files.specs.Files.{packing, version_in, versed, unpacking}
 use Rattle.files.specs.declared.Form.{Form}
 use Rattle.files.proofs.Shapes.{Shaped, stays, fills, written_shaped, packing_shaped, taking_shaped}
 use Rattle.reading.proofs.Answers.{same_checked, same_answer}
-use Rattle.rules.specs.Contracts.{check, measure, write, pack, unpack, Allows}
+use Rattle.rules.specs.PublicCalls.{check, measure, write, pack, unpack, Allows}
 use Rattle.rules.specs.Promises.{Determined, Unwritten, refusing, no_room, Demand1, Written, Demand2, WrittenRuns, NoneAccepts, NoDeadArms}
 use Rattle.rules.proofs.Meanings.{same_told, outcome_answer, reply_refuses, kept, answers, checkings, unpackings}
 

@@ -1,2 +1,2 @@
-pub mod Contracts
+pub mod PublicCalls
 pub mod Promises

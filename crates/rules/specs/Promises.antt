@@ -15,7 +15,7 @@ use Rattle.meaning.specs.Promises.{Comes, FromRule}
 use Rattle.reading.specs.declared.Checked.TheVariants.{Success, Refusal as unchecked}
 use Rattle.files.specs.Files.{packing, unpacking}
 use Rattle.files.specs.declared.Unpacked.TheVariants as unpacked
-use Rattle.rules.specs.Contracts.{Call, check, measure, write, pack, unpack, Result, Allows}
+use Rattle.rules.specs.PublicCalls.{Call, check, measure, write, pack, unpack, Result, Allows}
 
 -- "prove that two outcomes allowed by it are equal": of every public call
 abbrev pub Determined : Type 0

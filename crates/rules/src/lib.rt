@@ -2,7 +2,7 @@
 #![tactic(auto)]
 // reply, and a refusal leaves the output as it was. `Allows` says of each call which outcomes are allowed, and exactly one is.
 ghost use Rattle.language.specs.Setting.{in_version};
-ghost use Rattle.rules.specs.Contracts.{Call, Allows};
+ghost use Rattle.rules.specs.PublicCalls.{Call, Allows};
 
 use files::{Form, Unpacked};
 use language::Answer;
