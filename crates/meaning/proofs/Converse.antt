@@ -148,13 +148,13 @@ unfolding carried
 ungive (v_cons v_num (v_cons v_num v_nil)) adds = record { result = _; gives = adds }
 ungive (v_cons v_num (v_cons v_num v_nil)) subtracts = record { result = _; gives = subtracts }
 ungive (v_cons v_num (v_cons v_num v_nil)) less = record { result = _; gives = less }
-ungive v_nil x3 = elim x3 [ ]
-ungive (v_cons v_fun _) x12 = elim x12 [ ]
-ungive (v_cons (v_con _) _) x15 = elim x15 [ ]
-ungive (v_cons v_num v_nil) x16 = elim x16 [ ]
-ungive (v_cons v_num (v_cons v_fun _)) x25 = elim x25 [ ]
-ungive (v_cons v_num (v_cons (v_con _) _)) x28 = elim x28 [ ]
-ungive (v_cons v_num (v_cons v_num (v_cons _ _))) x33 = elim x33 [ ]
+ungive v_nil y = elim y [ ]
+ungive (v_cons v_fun _) y = elim y [ ]
+ungive (v_cons (v_con _) _) y = elim y [ ]
+ungive (v_cons v_num v_nil) y = elim y [ ]
+ungive (v_cons v_num (v_cons v_fun _)) y = elim y [ ]
+ungive (v_cons v_num (v_cons (v_con _) _)) y = elim y [ ]
+ungive (v_cons v_num (v_cons v_num (v_cons _ _))) y = elim y [ ]
 
 -- the ending hands the operation on the carried forms to the continuation, so that it gives something
 op_back : (p : Term) {w : Term} {o : ℕ} {ps vs : Terms} → Runs rules ps vs → Run images (sub 0 0 (rev (carrieds vs) (cons (lam p) nil)) nil (working o (size ps))) w

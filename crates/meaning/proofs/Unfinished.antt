@@ -53,7 +53,7 @@ operated_constructor_stuck r = let (a, b, e) = gives_numbers (unoperated (v_cons
 
 operated_endless_stuck : {o : ℕ} {s v : Term} → Run rules (op o (cons s (cons for_ever nil))) v → ⊥
 operated_endless_stuck (operated (then r (then s done)) g) = endless_run s refl
-operated_endless_stuck (taken x3) = elim x3 [ ]
+operated_endless_stuck (taken y) = elim y [ ]
 
 -- what is shown of the rule alone, and what follows for its image
 abbrev Stops : Reading → Type 0

@@ -68,7 +68,7 @@ fn number_at(image: &[u16], at: usize) -> u32
 }
 
 // The value of the atom at a place.
-#[cycle(build_take_take_all)]
+#[cycle(taking)]
 pub fn take(records: &mut [u32], image: &[u16], at: usize, bound: Bound, free: usize) -> Taken
     requires { Stands image.now at }
     ensures { TookSays image.now records.old records.new free at bound result }
@@ -100,7 +100,7 @@ fn count_at(image: &[u16], at: usize) -> usize
 }
 
 // The value of the constructor at a place.
-#[cycle(build_take_take_all)]
+#[cycle(taking)]
 fn build(records: &mut [u32], image: &[u16], at: usize, bound: Bound, free: usize) -> Taken
     requires { Constructed image.now at }
     ensures { TookSays image.now records.old records.new free at bound result }
@@ -123,7 +123,7 @@ fn build(records: &mut [u32], image: &[u16], at: usize, bound: Bound, free: usiz
 }
 
 // The values of so many atoms, from a place on, in the order of their words. What stands behind the last need not be found.
-#[cycle(build_take_take_all)]
+#[cycle(taking)]
 pub fn take_all(
     records: &mut [u32],
     values: &mut [usize],

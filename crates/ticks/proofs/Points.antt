@@ -85,6 +85,25 @@ mutual
   before (at_match r k) (matched r' k' s') = record { on = omega (arith, calls_same r r'); applies = λ e. never cc }
   before (past_match {ps} r k u) (matched r' k' s') =
       further (along (match_same ps k k' (same_run r r').0) (λ x. before u x) s') (count r).calls (omega arith) (omega (arith, calls_same r r'))
+  before (in_operands u) (taken y) = elim y [ ]
+  before (at_operation r g) (taken y) = elim y [ ]
+  before (operated_unfit r k) (taken y) = elim y [ ]
+  before (in_bound u) (taken y) = elim y [ ]
+  before (at_let r) (taken y) = elim y [ ]
+  before (past_let r u) (taken y) = elim y [ ]
+  before (in_applied u) (taken y) = elim y [ ]
+  before (in_arguments f u) (taken y) = elim y [ ]
+  before (called_con f r) (taken y) = elim y [ ]
+  before (called_num f r) (taken y) = elim y [ ]
+  before (called_unfit f r e) (taken y) = elim y [ ]
+  before (at_call f r e) (taken y) = elim y [ ]
+  before (past_call f r e u) (taken y) = elim y [ ]
+  before (in_subject u) (taken y) = elim y [ ]
+  before (matched_fun r) (taken y) = elim y [ ]
+  before (matched_num r) (taken y) = elim y [ ]
+  before (matched_none r k) (taken y) = elim y [ ]
+  before (at_match r k) (taken y) = elim y [ ]
+  before (past_match r k u) (taken y) = elim y [ ]
 
   befores : {L : Lang} {ts vs : Terms} {s : Next} (u : Uptos L ts s) (r : Runs L ts vs) → Before s (useds u).calls (counts r).calls
   befores (in_first u) (then r' s') = further (before u r') 0 (omega arith) (omega arith)

@@ -37,6 +37,7 @@ no_stop v_num (at_value x) h = h
 no_stops : {L : Lang} {vs : Terms} {s : Next} → Values vs → Uptos L vs s → Stops s → ⊥
 no_stops (v_cons v vs) (in_first u) h = no_stop v u h
 no_stops (v_cons v vs) (in_later r u) h = no_stops vs u h
+no_stops v_nil y h = elim y [ ]
 
 -- values are taken whole, without a call
 pub no_calls : (L : Lang) {vs : Terms} (vv : Values vs) → (counts (taken_all {L = L} vv)).calls ≡ 0
@@ -71,6 +72,7 @@ stop_let x (at_let r) h = absurd h
 stop_let {b} {s} x (past_let r u) h =
     subst (λ y. Reaches (sub 0 0 nil (cons y nil) b) s (0 + (count r).calls + (used u).calls)) (same_run r (taken x)).0
     (at (0 + (count r).calls + (used u).calls) u (omega (arith, value_calls x r)))
+stop_let x (at_value y) h = elim y [ ]
 
 pub stop_match : {t : ℕ} {vs : Terms} {ps : Arms} {b : Term} {s : Next} → Values vs → took t (size vs) ps ≡ some b
     → (u : Upto images (cases (con t vs) ps) s) → Stops s
@@ -84,6 +86,7 @@ stop_match vv k (at_match r k') h = absurd h
 stop_match {ps} {s} vv k (past_match r k' u) h =
     subst (λ y. Reaches y s (0 + (count r).calls + (used u).calls)) (match_same ps k' k (same_run r (taken (v_con vv))).0)
     (at (0 + (count r).calls + (used u).calls) u (omega (arith, value_calls (v_con vv) r)))
+stop_match vv k (at_value y) h = elim y [ ]
 
 -- the call itself, or a point of the body that it goes on with
 pub data Past (t : Term) : Next → ℕ → Type 0 where
@@ -105,6 +108,7 @@ stop_call {s} vv e (past_call f r e' u) h =
     (subst (λ y. Reaches y s (used u).calls) (call_same images e' e (same_run f (taken v_fun)).0 (same_runs r (taken_all vv)).0)
     (at (used u).calls u refl))
     (omega (arith, value_calls v_fun f, values_calls vv r))
+stop_call vv e (at_value y) h = elim y [ ]
 
 -- `Parts ps vs`: the arguments ps come to the values vs without a call, and nowhere on the way is a call next, or applies no rule
 pub record Parts (ps vs : Terms) : Type 0 where
@@ -126,9 +130,11 @@ operation_still : {o : ℕ} {vs : Terms} {v : Term} {s : Next} → Values vs →
 operation_still vv g (in_operands u) h = no_stops vv u h
 operation_still vv g (at_operation r g') h = h
 operation_still {v} vv g (operated_unfit r k) h = k v (operation_back vv r g)
+operation_still vv g (at_value y) h = elim y [ ]
 
 first_still : {t : Term} {s : Next} → (Upto images t s → Stops s → ⊥) → Uptos images (cons t nil) s → Stops s → ⊥
 first_still k (in_first u) h = k u h
+first_still k (in_later _ y) h = elim y [ ]
 
 pub of_operation : {o : ℕ} {vs : Terms} {v : Term} → Values vs → Gives o vs v → Parts (cons (op o vs) nil) (cons v nil)
 unfolding count
@@ -150,6 +156,7 @@ pub swap_comes : {f w : Term} {ps qs vs : Terms} → Parts ps vs → Parts qs vs
 unfolding count
 swap_comes a b (called {a = n} f r e s) =
     record { run = called f b.runs (parts_enters n a r e) s; in_calls = omega (arith, parts_calls a r, b.free) }
+swap_comes a b (taken y) = elim y [ ]
 
 pub swap_stop : {f : Term} {ps qs vs : Terms} {s : Next} → Parts ps vs → Parts qs vs → (u : Upto images (call f ps) s) → Stops s
     → Reaches (call f qs) s (used u).calls
@@ -164,6 +171,7 @@ swap_stop a b (at_call {a = n} f r e) h =
     record { point = at_call f b.runs (parts_enters n a r e); in_calls = omega (arith, parts_calls a r, b.free) }
 swap_stop a b (past_call {a = n} f r e u) h =
     record { point = past_call f b.runs (parts_enters n a r e) u; in_calls = omega (arith, parts_calls a r, b.free) }
+swap_stop a b (at_value y) h = elim y [ ]
 
 -- where no rule applies, no call comes next: what is called is no function
 pub stuck_called : {v : Term} {vs : Terms} → Value v → ((o a : ℕ) (b : Term) → v ≡ fun o a b → ⊥) → Values vs → Upto images (call v vs) a_call → ⊥
@@ -181,6 +189,7 @@ stuck_unfit vv e (past_call {ks} {xs} f r e' u) = none-ne-some (ks, xs) (sym e �
 -- an operation has no value
 not_given : {o : ℕ} {vs ws : Terms} → Values vs → ((v : Term) → Gives o vs v → ⊥) → Runs images (cons (op o vs) nil) ws → ⊥
 not_given vv k (then {v} (operated r g) s) = k v (operation_same vv r g)
+not_given vv k (then (taken y) s) = elim y [ ]
 
 unfit_still : {o : ℕ} {vs : Terms} → Values vs → Upto images (op o vs) a_call → ⊥
 unfit_still vv (in_operands u) = no_stops vv u tt
