@@ -1,5 +1,6 @@
 // Reads second words: how many arguments a constructor has, and the arity of an arm, which no arm before it in its match may have with the same tag.
 #![tactic(auto)]
+
 ghost use Rattle.std.specs.Prelude.{◌≡◌, ◌/◌, ◌%◌};
 ghost use Rattle.language.specs.Dead.{dead};
 ghost use Rattle.language.specs.Setting.{in_version};

@@ -6,7 +6,7 @@ use Prim.Native.Nat.{ℕ, zero, suc, ◌+◌, ◌-◌, ◌%◌, ◌≤◌, ◌<�
 use mathlib.Core.Path.{◌≡◌, refl, sym, ap, subst₂}
 use mathlib.Core.List.{List, ◌∷◌}
 use native.Mathlib.Omega.{arith}
-use lib.ListN.{length, get_or}
+use lib.ListN.{get_or}
 use Rattle.language.specs.Term.{Lang, rules, images, Term, Terms, Arms, size, sizeᵃ}
 use Rattle.language.specs.Kinds.{most_byte, row_at}
 use Rattle.language.specs.Words.{head, added, words, wordsᵗ, wordsᵃ}

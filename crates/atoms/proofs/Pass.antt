@@ -2,28 +2,23 @@
 -- such steps. A term's words put some steps before a pass over what stands behind the term: where the term stands in a function's body,
 -- they pass over one piece; else they join the term's answer to that pass's.
 -- Assumes nothing.
-use Prim.Native.Nat.{ℕ, zero, suc, ◌+◌, ◌-◌, ◌%◌, ◌≤◌, ◌<◌}
+use Prim.Native.Nat.{ℕ, zero, suc, ◌+◌, ◌-◌, ◌≤◌, ◌<◌}
 use mathlib.Core.Path.{◌≡◌, refl, sym, ap, ap₂, subst, subst₂, ◌∙◌}
 use mathlib.Core.Bool.{Bool, true, false, ◌&&◌, and_assoc, and-true}
-use mathlib.Core.List.{List, ◌∷◌}
+use mathlib.Core.List.{List}
 use native.Mathlib.Omega.{arith}
-use lib.ListN.{length, get_or}
+use lib.ListN.{length}
 use borrow.Author.Rules.{rules as bounds}
 use borrow.Author.Tests.{lt-ltb}
-use Rattle.language.specs.Term.{rules, Term, Terms, Arms, size, sizeᵃ}
-use Rattle.language.specs.Kinds.{most_byte, row_at}
-use Rattle.language.specs.Words.{head, words, wordsᵗ, wordsᵃ}
-use Rattle.language.specs.Limits.{Ranged, Rangedᵗ, Rangedᵃ, r_var, r_kvar, r_fun, r_call, r_bind, r_con, r_cases, r_num, r_op, r_nil, r_cons, r_none, r_arm}
+use Rattle.language.specs.Term.{rules, Term, Terms, size, sizeᵃ}
+use Rattle.language.specs.Words.{words, wordsᵗ}
+use Rattle.language.specs.Limits.{Ranged, Rangedᵗ, r_var, r_kvar, r_fun, r_call, r_bind, r_con, r_cases, r_num, r_op, r_nil, r_cons}
 use Rattle.language.specs.Run.{atom, atoms}
 use Rattle.language.specs.Places.{Held}
-use Rattle.language.specs.declared.Parts.{Parts}
-use Rattle.language.specs.declared.Parts.TheVariants.{Body}
-use Rattle.language.specs.declared.Row.{Row}
 use Rattle.language.proofs.Clash.{never}
-use Rattle.language.proofs.Heads.{of_kind}
 use Rattle.language.proofs.Places.{first_run, second_run, first_word, next_words, ends}
 use Rattle.atoms.specs.Standing.{term, Stands, Seen, AtomAt, form_at}
-use Rattle.atoms.specs.Openings.{head_words, pieces_of, pieces_at, opening_at, Whole, OpensAt, tested, rest_after}
+use Rattle.atoms.specs.Openings.{head_words, pieces_of, opening_at, Whole, OpensAt, tested, rest_after}
 use Rattle.atoms.specs.declared.Opening.{Opening}
 use Rattle.atoms.specs.declared.Rest.{Rest}
 use Rattle.atoms.specs.declared.Rest.TheVariants.{Left, NoAtom}

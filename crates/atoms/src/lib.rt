@@ -1,5 +1,6 @@
 // Whether a term is an atom, told by its words. What stands inside a function is passed over.
 #![tactic(auto)]
+
 ghost use Rattle.language.specs.declared.Parts.TheVariants.{CountAndArguments};
 ghost use Rattle.std.specs.Prelude.{◌≡◌};
 ghost use Rattle.atoms.specs.Standing.{term, Stands, AtomAt, form_at, Parted, Counted};

@@ -1,5 +1,6 @@
 // The kinds of head words, in the one table that every reader consults, and the limits of rules and images.
 #![tactic(auto)]
+
 ghost use Rattle.std.specs.Prelude.{◌≡◌};
 ghost use Rattle.language.specs.Kinds.{known, row_of, head_of};
 

@@ -1,5 +1,6 @@
 // Reads a rule: one forward pass checks its words and measures its image. Terms, lists and arms are read through each other.
 #![tactic(auto)]
+
 ghost use Rattle.std.specs.Prelude.{◌≡◌, ◌+◌, ◌*◌, ◌≤◌, ◌<◌, cond, [], ltb, length};
 ghost use Rattle.language.specs.Term.{var, num};
 ghost use Rattle.language.specs.Setting.{in_version};

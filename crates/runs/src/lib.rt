@@ -1,5 +1,6 @@
 // Writes runs of words into an image: the heads that it adds, its variables, and the ends of its chains.
 #![tactic(auto)]
+
 ghost use Rattle.std.specs.Prelude.{◌+◌, ◌<◌, [], ◌∷◌, length, get_or};
 ghost use Rattle.language.specs.Term.{images};
 ghost use Rattle.language.specs.Kinds.{most_byte};

@@ -1,5 +1,6 @@
 // Writes the image of a rule that was checked: one forward pass over the rule's words and over the output.
 #![tactic(auto)]
+
 ghost use Rattle.std.specs.Prelude.{true, false};
 ghost use Rattle.language.specs.Words.{head};
 ghost use Rattle.language.specs.declared.Parts.TheVariants.{Body, FunctionAndArguments, BoundAndBody, CountAndArguments, SubjectAndArms, HighAndLow, TwoParts};
