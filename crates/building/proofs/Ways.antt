@@ -1,21 +1,21 @@
 -- One law for each way out of the functions that build a constructor's record: what a record tells by its kind, the sums over the arguments, and the
 -- whole record as one run of words.
 -- Assumes nothing.
-use Prim.Native.Nat.{ℕ, zero, suc, ◌+◌, ◌-◌, ◌*◌, ◌≤◌, ◌<◌, max}
+use Prim.Native.Nat.{ℕ, suc, ◌+◌, ◌-◌, ◌*◌, ◌≤◌, ◌<◌, max}
 use mathlib.Core.Path.{◌≡◌, refl, sym, ap, subst, ◌∙◌}
-use mathlib.Core.List.{List, [], ◌∷◌, ◌++◌}
+use mathlib.Core.List.{List, [], ◌∷◌}
 use native.Mathlib.Omega.{arith}
-use lib.ListN.{length, get_or, drop, length-drop, drop_of_length-le}
-use lib.Seq.{sets, length-sets, drop-cons}
+use lib.ListN.{length, get_or, drop, drop_of_length-le}
+use lib.Seq.{length-sets, drop-cons}
 use borrow.Author.Rules.{rules}
 use borrow.Author.Tests.{le-leb, lt-leb}
 use Rattle.language.specs.Kinds.{most_arguments, most_byte}
 use Rattle.language.specs.Limits.{deepest}
 use Rattle.language.proofs.Clash.{never}
-use Rattle.ticks.specs.Tick.{Closure, Closures, c_fun, c_con, c_num, c_nil, c_cons, sizeᶜ}
+use Rattle.ticks.specs.Tick.{Closure, Closures, c_con, sizeᶜ}
 use Rattle.runs.specs.Runs.{Room, Put}
 use Rattle.runs.proofs.Runs.{put_none, put_then, one_more, two_more}
-use Rattle.records.specs.Links.{record_words, low, high, links, link_at, Words, Grown}
+use Rattle.records.specs.Links.{record_words, low, high, links, link_at, Words}
 use Rattle.records.specs.Grades.{holding, too_deep, raised, grade, grades, last, lasts, capped}
 use Rattle.records.specs.Memory.{a_function, a_constructor, a_number, Val, v_fun, v_con, v_num, Vals, v_nil, v_cons}
 use Rattle.records.proofs.Memory.{put_grown, put_words, here, vals_grown, link_of}

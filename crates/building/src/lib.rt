@@ -1,5 +1,6 @@
 // Builds the record of a constructor: beside its arguments it tells what is known of the whole value, so that nobody walks over it.
 #![tactic(auto)]
+
 ghost use Rattle.std.specs.Prelude.{◌+◌, ◌*◌, ◌≤◌, max, ◌≡◌, [], ◌∷◌, length};
 ghost use Rattle.language.specs.Kinds.{most_arguments, most_byte};
 ghost use Rattle.runs.specs.Runs.{Room, Put};

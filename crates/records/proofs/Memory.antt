@@ -1,19 +1,17 @@
 -- What records hold they go on holding: a record is written once, behind all that are in use. And what a record holds once it is written.
 -- Assumes nothing.
-use Prim.Native.Nat.{ℕ, zero, suc, ◌+◌, ◌*◌, ◌/◌, ◌%◌, ◌≤◌, ◌<◌}
-use mathlib.Core.Path.{◌≡◌, refl, sym, ap, ◌∙◌}
-use mathlib.Core.List.{List, [], ◌∷◌, ◌++◌}
+use Prim.Native.Nat.{ℕ, zero, suc, ◌+◌, ◌≤◌, ◌<◌}
+use mathlib.Core.Path.{◌≡◌, refl, ap, ◌∙◌}
+use mathlib.Core.List.{List, [], ◌∷◌}
 use native.Mathlib.Omega.{arith}
 use lib.ListN.{length, get_or, set, length-set}
 use lib.Seq.{sets, length-sets, get_or-set_same, get_or-set_other}
 use Rattle.language.specs.Term.{Term, fun}
-use Rattle.language.specs.Kinds.{most_arguments}
 use Rattle.ticks.specs.Flat.{FlatAtom}
-use Rattle.ticks.specs.Tick.{Closure, Closures, c_fun, c_con, c_num, c_nil, c_cons, sizeᶜ, held}
+use Rattle.ticks.specs.Tick.{Closure, Closures, c_fun, c_num, c_cons, sizeᶜ, held}
 use Rattle.runs.specs.Runs.{Room, Put}
-use Rattle.records.specs.Links.{record_words, link_end, low, high, links, link_at, Words, Within, found_from, Grown}
-use Rattle.records.specs.Grades.{grade, last}
-use Rattle.records.specs.Memory.{Laid, a_function, a_constructor, a_number, Val, v_fun, v_con, v_num, Vals, v_nil, v_cons, Env, e_nil, e_cons}
+use Rattle.records.specs.Links.{record_words, low, high, links, link_at, Words, Within, found_from, Grown}
+use Rattle.records.specs.Memory.{Laid, a_function, a_number, Val, v_fun, v_con, v_num, Vals, v_nil, v_cons, Env, e_nil, e_cons}
 
 -- nothing was written
 pub not_grown : {m : List ℕ} {n : ℕ} → n ≤ length m → Grown m m n n

@@ -1,6 +1,6 @@
 -- One law for each way out of the functions on the words of records.
 -- Assumes nothing.
-use Prim.Native.Nat.{ℕ, zero, suc, ◌+◌, ◌-◌, ◌*◌, ◌/◌, ◌%◌, ◌≤◌, ◌<◌}
+use Prim.Native.Nat.{ℕ, zero, suc, ◌+◌, ◌-◌, ◌≤◌, ◌<◌}
 use mathlib.Core.Path.{◌≡◌, refl, sym, ap, ◌∙◌}
 use mathlib.Core.List.{List, [], ◌∷◌, ◌++◌}
 use native.Mathlib.Omega.{arith}
@@ -8,7 +8,7 @@ use native.Mathlib.Numerals.{sub-one}
 use lib.ListN.{length, get_or, set, take, replicate, length-set}
 use lib.Seq.{take_all, take-suc-set}
 use borrow.Author.Rules.{rules}
-use Rattle.runs.specs.Runs.{Room, Put}
+use Rattle.runs.specs.Runs.{Put}
 use Rattle.runs.proofs.Runs.{two_more}
 use Rattle.records.specs.Links.{record_words, link_at, found_from}
 use Rattle.records.specs.Kept.{Kept, kept, not_kept}

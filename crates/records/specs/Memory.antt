@@ -6,7 +6,7 @@ use Rattle.language.specs.Scope.{Scoped, Scopedᵗ, Scopedᵃ}
 use Rattle.language.specs.Limits.{Ranged, Rangedᵗ, Rangedᵃ}
 use Rattle.language.specs.Kinds.{most_arguments, most_byte}
 use Rattle.language.specs.Places.{Held}
-use Rattle.ticks.specs.Flat.{Flat, FlatAtom, FlatAtoms, Flatᵃ}
+use Rattle.ticks.specs.Flat.{FlatAtom, FlatAtoms, Flatᵃ}
 use Rattle.ticks.specs.Tick.{Closure, Closures, c_fun, c_con, c_num, c_nil, c_cons, sizeᶜ}
 use Rattle.records.specs.Links.{low, high, links, Words, Within}
 use Rattle.records.specs.Grades.{grade, last}

@@ -1,5 +1,6 @@
 // The records of a run, in lent words of 32 bits: references, values and bindings, each in a record of its own that is written once.
 #![tactic(auto)]
+
 ghost use Rattle.std.specs.Prelude.{◌+◌, ◌-◌, ◌<◌, ◌≤◌, ◌≡◌, [], ◌∷◌, length, get_or, replicate};
 ghost use Rattle.runs.specs.Runs.{Room, Put};
 ghost use Rattle.records.specs.Links.{record_words, low, high, link_at, found_from};

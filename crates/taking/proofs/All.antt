@@ -1,7 +1,7 @@
 -- Taking some atoms one after the other: what was taken, with what is still to be taken, is the whole.
 -- Assumes nothing.
-use Prim.Native.Nat.{ℕ, zero, suc, ◌+◌, ◌-◌, ◌*◌, ◌≤◌, ◌<◌}
-use mathlib.Core.Path.{◌≡◌, refl, sym, ap, ◌∙◌, subst}
+use Prim.Native.Nat.{ℕ, suc, ◌+◌, ◌-◌, ◌*◌, ◌≤◌, ◌<◌}
+use mathlib.Core.Path.{◌≡◌, refl, sym, ap, ◌∙◌}
 use mathlib.Core.List.{List, [], ◌∷◌, ◌++◌}
 use native.Mathlib.Omega.{arith}
 use lib.ListN.{length, set, take, length-set}
@@ -9,11 +9,10 @@ use lib.Seq.{take-suc-set}
 use borrow.Author.Rules.{rules}
 use Rattle.language.specs.Term.{images, Term, Terms, nil, cons, size}
 use Rattle.language.specs.Words.{words, wordsᵗ}
-use Rattle.language.specs.Scope.{Scoped, Scopedᵗ, s_nil, s_cons}
-use Rattle.language.specs.Limits.{Ranged, Rangedᵗ, r_nil, r_cons}
-use Rattle.language.specs.Places.{Held}
+use Rattle.language.specs.Scope.{Scopedᵗ, s_cons}
+use Rattle.language.specs.Limits.{Rangedᵗ, r_cons}
 use Rattle.language.proofs.Places.{first_run, second_run}
-use Rattle.ticks.specs.Flat.{FlatAtom, FlatAtoms, f_nil, f_cons}
+use Rattle.ticks.specs.Flat.{FlatAtom, FlatAtoms, f_cons}
 use Rattle.ticks.specs.Tick.{Closure, Closures, c_nil, c_cons, sizeᶜ, value, values, takes, takesᵗ}
 use Rattle.records.specs.Links.{record_words, Grown}
 use Rattle.records.specs.Memory.{Laid, Laidᵗ, Val, Vals, v_nil, v_cons}
@@ -21,9 +20,8 @@ use Rattle.records.specs.declared.Taken.{Taken}
 use Rattle.records.specs.declared.Taken.TheVariants.{At, Full}
 use Rattle.records.proofs.Memory.{not_grown, grown_on, env_grown, vals_grown}
 use Rattle.taking.specs.Standing.{Stands, Standᵗ, Ends}
-use Rattle.taking.specs.Taking.{Bounds, Taking, Takingᵗ, TookOne, TookAll, taken, full, TookSays, TookAllSays}
+use Rattle.taking.specs.Taking.{Bounds, Takingᵗ, TookOne, TookAll, taken, full, TookSays, TookAllSays}
 use Rattle.taking.specs.declared.Bound.{Bound}
-use Rattle.taking.specs.declared.Took.{Took}
 use Rattle.taking.specs.declared.Took.TheVariants as took
 use Rattle.taking.proofs.Inside.{stand_first, stand_next}
 

@@ -1,13 +1,13 @@
 -- What stands in an image is inside it: the bounds of those who read it, and what stands behind a head.
 -- Assumes nothing.
-use Prim.Native.Nat.{ℕ, zero, suc, ◌+◌, ◌-◌, ◌/◌, ◌%◌, ◌≤◌, ◌<◌}
-use mathlib.Core.Path.{◌≡◌, refl, sym, ap, ◌∙◌, subst}
-use mathlib.Core.List.{List, [], ◌∷◌}
+use Prim.Native.Nat.{ℕ, ◌+◌, ◌-◌, ◌/◌, ◌≤◌, ◌<◌}
+use mathlib.Core.Path.{◌≡◌, refl, sym, ap, ◌∙◌}
+use mathlib.Core.List.{List}
 use native.Mathlib.Omega.{arith}
 use lib.ListN.{length, get_or}
 use Rattle.language.specs.Term.{images, Term, Terms, nil, cons, size}
 use Rattle.language.specs.Words.{words, wordsᵗ}
-use Rattle.language.specs.Limits.{Ranged, r_var, r_kvar, r_fun, r_call, r_bind, r_con, r_cases, r_num, r_op, Rangedᵗ, r_nil, r_cons}
+use Rattle.language.specs.Limits.{Ranged, r_var, r_kvar, r_fun, r_call, r_bind, r_con, r_cases, r_num, r_op, Rangedᵗ, r_cons}
 use Rattle.language.specs.Places.{Held}
 use Rattle.language.specs.Kinds.{most_arguments}
 use Rattle.language.proofs.Places.{first_run, second_run, there, first_word, next_words, ends}

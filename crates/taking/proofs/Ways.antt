@@ -1,29 +1,28 @@
 -- One law for each way out of taking an atom: a variable is found, a function, a number or a constructor is put into a record.
 -- Assumes nothing.
-use Prim.Native.Nat.{ℕ, zero, suc, ◌+◌, ◌-◌, ◌*◌, ◌/◌, ◌%◌, ◌≤◌, ◌<◌}
-use mathlib.Core.Path.{◌≡◌, refl, sym, ap, ◌∙◌, subst}
+use Prim.Native.Nat.{ℕ, suc, ◌+◌, ◌*◌, ◌/◌, ◌%◌}
+use mathlib.Core.Path.{◌≡◌, refl, sym, ap, ◌∙◌}
 use mathlib.Core.List.{List, [], ◌∷◌}
 use native.Mathlib.Omega.{arith}
 use lib.ListN.{length, get_or, take}
 use lib.Seq.{length-sets}
 use borrow.Author.Rules.{rules}
 use Rattle.language.specs.Term.{images, Term, Terms, con, size}
-use Rattle.language.specs.Words.{word_end, words, wordsᵗ}
+use Rattle.language.specs.Words.{word_end, words}
 use Rattle.language.specs.Scope.{Scoped, s_var, s_kvar, s_con}
 use Rattle.language.specs.Limits.{Ranged, r_con}
-use Rattle.language.specs.Places.{Held}
-use Rattle.language.proofs.Places.{first_word, next_words, there, ends}
-use Rattle.ticks.specs.Flat.{FlatAtom, f_var, f_kvar, f_fun, f_con, f_num, FlatAtoms}
-use Rattle.ticks.specs.Tick.{Closure, Closures, sizeᶜ, held, value, values, takes, takesᵗ}
-use Rattle.records.specs.Links.{record_words, low, high, found_from, Grown}
+use Rattle.language.proofs.Places.{first_word, next_words}
+use Rattle.ticks.specs.Flat.{FlatAtom}
+use Rattle.ticks.specs.Tick.{Closures, sizeᶜ, value, values, takes, takesᵗ}
+use Rattle.records.specs.Links.{record_words, low, high, found_from}
 use Rattle.records.specs.Kept.{Kept, kept, not_kept}
-use Rattle.records.specs.Memory.{Laid, Laidᵗ, a_function, a_number, Val}
+use Rattle.records.specs.Memory.{Laid, Laidᵗ, a_function, a_number}
 use Rattle.records.specs.declared.Taken.{Taken}
 use Rattle.records.specs.declared.Taken.TheVariants.{At, Full}
 use Rattle.records.proofs.Memory.{not_grown, grown_on, put_grown, closes, numbers, finds}
 use Rattle.taking.specs.Standing.{Constructed, Counts}
 use Rattle.building.specs.Built.{BuiltOr, is_built, not_built}
-use Rattle.taking.specs.Taking.{Bounds, Taking, Takingᵗ, TookOne, TookAll, taken, full, TookSays, TookAllSays}
+use Rattle.taking.specs.Taking.{Bounds, Taking, TookOne, TookAll, taken, full, TookSays, TookAllSays}
 use Rattle.taking.specs.declared.Bound.{Bound}
 use Rattle.taking.specs.declared.Took.{Took}
 use Rattle.taking.specs.declared.Took.TheVariants as took

@@ -1,5 +1,6 @@
 // Takes the words of an image as values, in records.
 #![tactic(auto)]
+
 ghost use Rattle.std.specs.Prelude.{◌+◌, ◌*◌, ◌/◌, ◌<◌, ◌≤◌, ◌≡◌, length, get_or};
 ghost use Rattle.language.specs.Words.{word_end};
 ghost use Rattle.taking.specs.Standing.{Stands, Standᵗ, Ends, Constructed, Counts};
