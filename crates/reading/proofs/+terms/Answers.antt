@@ -1,9 +1,8 @@
 -- The functions that read terms, lists and arms through each other meet their contracts: each way out is a law of `Ways`, and what is left are
 -- bounds.
-use Rattle.std.proofs.Common.{◌≡◌, arith, refl, ◌&&◌, inl, inr}
-use Rattle.reading.proofs.Ways.{l_met, ways, terms_ways, arms_ways}
+use Rattle.std.proofs.Common.{arith, refl}
+use Rattle.reading.proofs.Ways.{l_more, ways, terms_ways, arms_ways}
 use Rattle.reading.proofs.+terms.Goals as goal
-use Rattle.reading.proofs.+terms.Goals.{terms_at-then-all, terms_at-else-all}
 
 pub arms_at-loop-i-init : goal.arms_at-loop-i-init
 arms_at-loop-i-init t c = record { read = search arms_ways; inside = omega arith; few = omega arith; counted = omega arith; table = refl }
@@ -120,10 +119,12 @@ pub terms_at-overflow_add-words-in-Next : goal.terms_at-overflow_add-words-in-Ne
 terms_at-overflow_add-words-in-Next t c = search terms_ways
 
 pub terms_at-loop-i-preserved : goal.terms_at-loop-i-preserved
-terms_at-loop-i-preserved t c =
-    let met : c.if-all.all ≡ (c.loop-i.all && c.in-Next.b) =
-    l_met (elim c.if-all.branch [ terms_at-then-all w ↦ inl (w.if-all.true, w.all-is) | terms_at-else-all w ↦ inr (w.if-all.false, w.all-is) ]) in
-    record { read = search (terms_ways, met); inside = omega arith; few = search terms_ways; counted = omega arith }
+terms_at-loop-i-preserved t c = record {
+  read = l_more _ _ _ _ _ _ c.loop-i.invariant.read c.loop-i-test.true c.term_at.ensures c.in-Next.is (grind arith);
+  inside = omega arith;
+  few = search terms_ways;
+  counted = omega arith;
+}
 
 pub terms_at-returns : goal.terms_at-returns
 terms_at-returns t c = search terms_ways
