@@ -136,7 +136,8 @@ pub fn is_atom(s: &[u16], at: usize, depth: usize) -> bool
     let mut next = at;
     let mut inside = 0;
     let mut atoms_left = 1;
-    while 0 < atoms_left {
+    // The label names the loop for the proof, whatever its test says.
+    'tests: while 0 < atoms_left {
         let head = opening_at(s, next);
         match rest_after(head, inside, atoms_left) {
             Rest::NoAtom => return false,

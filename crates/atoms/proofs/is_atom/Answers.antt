@@ -2,8 +2,8 @@
 use Rattle.atoms.proofs.Pass.{passes}
 use Rattle.atoms.proofs.is_atom.Goals as goal
 
-pub loop-atoms_left-init : goal.loop-atoms_left-init
-loop-atoms_left-init c = search passes
+pub tests-init : goal.tests-init
+tests-init c = search passes
 
 pub opening_at-head-requires : goal.opening_at-head-requires
 opening_at-head-requires c = search passes
@@ -11,8 +11,8 @@ opening_at-head-requires c = search passes
 pub returns-in-NoAtom : goal.returns-in-NoAtom
 returns-in-NoAtom c = search passes
 
-pub loop-atoms_left-preserved : goal.loop-atoms_left-preserved
-loop-atoms_left-preserved c = search passes
+pub tests-preserved : goal.tests-preserved
+tests-preserved c = search passes
 
 pub returns : goal.returns
 returns c = search passes
