@@ -1,4 +1,5 @@
 // Reads second words: how many arguments a constructor has, and the arity of an arm, which no arm before it in its match may have with the same tag.
+
 #![tactic(auto)]
 
 ghost use Rattle.std.specs.Prelude.{◌≡◌, ◌/◌, ◌%◌};

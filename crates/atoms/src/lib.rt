@@ -1,4 +1,5 @@
 // Whether a term is an atom, told by its words. What stands inside a function is passed over.
+
 #![tactic(auto)]
 
 ghost use Rattle.language.specs.declared.Parts.TheVariants.{CountAndArguments};

@@ -1,4 +1,5 @@
 // Builds the record of a constructor: beside its arguments it tells what is known of the whole value, so that nobody walks over it.
+
 #![tactic(auto)]
 
 ghost use Rattle.std.specs.Prelude.{◌+◌, ◌*◌, ◌≤◌, max, ◌≡◌, [], ◌∷◌, length};

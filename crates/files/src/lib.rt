@@ -1,4 +1,5 @@
 // The two file forms: a mark, a version, a count and the words, all low byte first.
+
 #![tactic(auto)]
 
 ghost use Rattle.std.specs.Prelude.{◌≡◌, ◌+◌, ◌*◌, ◌≤◌, ◌<◌, [], ◌∷◌, length};

@@ -1,4 +1,5 @@
 // The kinds of head words, in the one table that every reader consults, and the limits of rules and images.
+
 #![tactic(auto)]
 
 ghost use Rattle.std.specs.Prelude.{◌≡◌};

@@ -1,7 +1,9 @@
 // The controller's face: the public calls for programs in C. Words, bytes and outputs are lent as a pointer and a length; the reply is one number,
-#![tactic(auto)]
 // whose meaning specs/Numbers.antt gives. As in `rules` no call has a `requires`, and `Means` says of each which outcomes are allowed.
 // The calls named `_apart` take a mutable output besides: that it shares no byte with what else is lent is a borrow's rule here, and in C the caller's part.
+
+#![tactic(auto)]
+
 ghost use Rattle.std.specs.Prelude.{◌≡◌, ◌≤◌};
 ghost use Rattle.language.specs.Setting.{in_version};
 ghost use Rattle.language.specs.Limits.{most_words};

@@ -1,4 +1,5 @@
 // Reads a rule: one forward pass checks its words and measures its image. Terms, lists and arms are read through each other.
+
 #![tactic(auto)]
 
 ghost use Rattle.std.specs.Prelude.{◌≡◌, ◌+◌, ◌*◌, ◌≤◌, ◌<◌, cond, [], ltb, length};

@@ -1,4 +1,5 @@
 // The records of a run, in lent words of 32 bits: references, values and bindings, each in a record of its own that is written once.
+
 #![tactic(auto)]
 
 ghost use Rattle.std.specs.Prelude.{◌+◌, ◌-◌, ◌<◌, ◌≤◌, ◌≡◌, [], ◌∷◌, length, get_or, replicate};

@@ -1,6 +1,8 @@
 // The public calls. A call on words is told the version. None has a `requires`: every sequence of words or bytes and every lent output gets its
-#![tactic(auto)]
 // reply, and a refusal leaves the output as it was. `Allows` says of each call which outcomes are allowed, and exactly one is.
+
+#![tactic(auto)]
+
 ghost use Rattle.language.specs.Setting.{in_version};
 ghost use Rattle.rules.specs.PublicCalls.{Call, Allows};
 

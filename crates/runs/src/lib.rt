@@ -1,4 +1,5 @@
 // Writes runs of words into an image: the heads that it adds, its variables, and the ends of its chains.
+
 #![tactic(auto)]
 
 ghost use Rattle.std.specs.Prelude.{◌+◌, ◌<◌, [], ◌∷◌, length, get_or};

@@ -1,4 +1,5 @@
 // Takes the words of an image as values, in records.
+
 #![tactic(auto)]
 
 ghost use Rattle.std.specs.Prelude.{◌+◌, ◌*◌, ◌/◌, ◌<◌, ◌≤◌, ◌≡◌, length, get_or};

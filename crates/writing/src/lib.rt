@@ -1,4 +1,5 @@
 // Writes the image of a rule that was checked: one forward pass over the rule's words and over the output.
+
 #![tactic(auto)]
 
 ghost use Rattle.std.specs.Prelude.{true, false};
