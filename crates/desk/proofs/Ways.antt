@@ -119,5 +119,3 @@ i_inside {m = m} k h = subst (λ x. arrived_of x ≤ m) k h
 -- a part is as long as was counted
 pub taken : (n : ℕ) (l : List ℕ) → n ≤ length l → n ≡ length (take n l)
 taken n l h = sym (length-take-le n l h)
-
-pub ruleset ways = (t_long, t_refused, t_inside, t_written, c_refusal, c_count, a_inside, a_shown, p_inside, i_inside, taken)
