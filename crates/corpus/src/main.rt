@@ -2,7 +2,7 @@
 // prints the refusal and its place, or the image's count and checksum, and the image itself where it is short.
 #![tactic(auto)]
 
-ghost use Rattle.std.specs.Prelude.{◌+◌, ◌*◌, ◌<◌, ◌≤◌, length};
+ghost use Rattle.std.specs.Prelude.{◌≡◌, ◌+◌, ◌*◌, ◌<◌, ◌≤◌, length};
 
 use desk::Input;
 use language::Answer;
@@ -142,6 +142,13 @@ fn report_all<W: Write>(out: &mut W, bytes: &[u8]) -> bool {
     true
 }
 
+// Zeros, to read the input into. A proof that lends them needs their number alone.
+fn zeros<const N: usize>() -> [u8; N]
+    ensures { N ≡ length result }
+{
+    [0; N]
+}
+
 // Reads the records of a file, as far as the buffer holds them, and reports each. What failed is told on standard error.
 fn report_file<F: Read, W: Write, E: Write>(
     buffer: &mut [u8],
@@ -159,7 +166,7 @@ fn report_file<F: Read, W: Write, E: Write>(
 }
 
 fn main(rt: HostRuntime) {
-    let mut input = [0u8; MOST_INPUT];
+    let mut input = zeros::<MOST_INPUT>();
     report_file(
         &mut input,
         &mut rt.stdin(),
