@@ -1,5 +1,6 @@
 // The bench's desk: a file of the rules' form comes in, and the whole answer goes out as text. The programs are thin over this.
 #![tactic(auto)]
+
 ghost use Rattle.std.specs.Prelude.{◌≡◌, ◌≤◌, length};
 ghost use Rattle.language.specs.Calls.{told, filled};
 ghost use Rattle.desk.specs.Input.{arrived_of};

@@ -13,7 +13,13 @@ const LETTERS: usize = 26;
 const MOST_NAME: usize = 8;
 
 // Answers the file of a letter in a set; says whether there is one.
-fn answer_letter<R: Files, W: Write, E: Write>(rt: &R, out: &mut W, errors: &mut E, set: u8, letter: u8) -> bool {
+fn answer_letter<R: Files, W: Write, E: Write>(
+    rt: &R,
+    out: &mut W,
+    errors: &mut E,
+    set: u8,
+    letter: u8,
+) -> bool {
     let (set_sign, letter_sign) = (char::from(set), char::from(letter));
     let path = InlineText::<MOST_NAME>::of(format_args!("{set_sign}{letter_sign}.lrs"));
     let Ok(mut file) = File::open(rt, path.as_str()) else {
