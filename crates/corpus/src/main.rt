@@ -1,11 +1,12 @@
 // Runs the translator on many rules: standard input holds records, each a version, a count of words and the words, all low byte first. Of each it
-#![tactic(auto)]
 // prints the refusal and its place, or the image's count and checksum, and the image itself where it is short.
-ghost use Rattle.std.specs.Prelude.{◌+◌, ◌*◌, ◌<◌, ◌≤◌, length};
+#![tactic(auto)]
+
+ghost use Rattle.std.specs.Prelude.{◌≡◌, ◌+◌, ◌*◌, ◌<◌, ◌≤◌, length};
 
 use desk::Input;
 use language::Answer;
-use libc::{STDIN_FILENO, STDOUT_FILENO};
+use std::io::{Read, Write};
 
 // The most bytes of the input, and the most words of a record.
 const MOST_INPUT: usize = 600000;
@@ -57,58 +58,50 @@ fn checksum(words: &[u16]) -> Sums
     ensures { (result.low < 65521) × (result.high < 65521) }
 {
     let mut sums = Sums { low: 1, high: 0 };
-    let mut i = 0;
-    while i < words.len() {
-        sums = added(sums, words[i]);
-        i += 1;
+    for word in words {
+        sums = added(sums, *word);
     }
     sums
 }
 
 // Prints an accepted rule's line, and its image where that is short. All that prints says whether it could be written.
-fn print_image(image: &[u16]) -> bool {
+fn print_image<W: Write>(out: &mut W, image: &[u16]) -> bool {
     let sums = checksum(image);
     let mut text = [0u8; 9];
     listing::put_word(&mut text, 0, sums.high as u16, b' ');
     listing::put_word(&mut text, 4, sums.low as u16, b'\n');
-    print_count(image.len()) && io::write_all(STDOUT_FILENO, &text) && print_short(image)
+    print_count(out, image.len()) && out.write_all(&text).is_ok() && print_short(out, image)
 }
 
-fn print_count(count: usize) -> bool {
-    io::write_all(STDOUT_FILENO, b"ok ")
-        && io::print_decimal(STDOUT_FILENO, count as u64)
-        && io::write_all(STDOUT_FILENO, b" ")
+fn print_count<W: Write>(out: &mut W, count: usize) -> bool {
+    write!(out, "ok {count} ").is_ok()
 }
 
-fn print_short(image: &[u16]) -> bool {
+fn print_short<W: Write>(out: &mut W, image: &[u16]) -> bool {
     if SHORT_IMAGE < image.len() {
         return true;
     }
     let mut text = [0u8; SHORT_TEXT];
     listing::put_words(&mut text, 0, image);
     let size = WORD_TEXT * image.len();
-    io::write_all(STDOUT_FILENO, &text[..size])
+    out.write_all(&text[..size]).is_ok()
 }
 
-fn print_refusal(number: u8, place: usize) -> bool {
-    io::write_all(STDOUT_FILENO, b"no ")
-        && io::print_decimal(STDOUT_FILENO, number as u64)
-        && io::write_all(STDOUT_FILENO, b" ")
-        && io::print_decimal(STDOUT_FILENO, place as u64)
-        && io::write_all(STDOUT_FILENO, b"\n")
+fn print_refusal<W: Write>(out: &mut W, number: u8, place: usize) -> bool {
+    writeln!(out, "no {number} {place}").is_ok()
 }
 
 // Translates a rule, read in a version, and prints what came of it.
-fn report(version: u16, rule: &[u16]) -> bool {
+fn report<W: Write>(out: &mut W, version: u16, rule: &[u16]) -> bool {
     let mut image = [0u16; language::MOST_IMAGE_WORDS];
     match rules::write(&mut image, version, rule) {
-        Answer::Refusal(e, p) => print_refusal(e, p),
-        Answer::Count(n) => n <= language::MOST_IMAGE_WORDS && print_image(&image[..n]),
+        Answer::Refusal(e, p) => print_refusal(out, e, p),
+        Answer::Count(n) => n <= language::MOST_IMAGE_WORDS && print_image(out, &image[..n]),
     }
 }
 
 // Reports the record at a place, and gives the place after it; the end where there is no whole record.
-fn record(bytes: &[u8], at: usize) -> Reported
+fn record<W: Write>(out: &mut W, bytes: &[u8], at: usize) -> Reported
     requires { at < length bytes.now }
     ensures { (at < result.next) × (result.next ≤ length bytes.now) }
 {
@@ -130,17 +123,17 @@ fn record(bytes: &[u8], at: usize) -> Reported
     }
     let mut rule = [0u16; MOST_RECORD];
     files::take_words(&mut rule, bytes, at + RECORD_HEADER, count);
-    let written = report(version, &rule[..count]);
+    let written = report(out, version, &rule[..count]);
     Reported {
         next: at + RECORD_HEADER + WORD_BYTES * count,
         written,
     }
 }
 
-fn report_all(bytes: &[u8]) -> bool {
+fn report_all<W: Write>(out: &mut W, bytes: &[u8]) -> bool {
     let mut at = 0;
     while at < bytes.len() {
-        let reported = record(bytes, at);
+        let reported = record(out, bytes, at);
         if !reported.written {
             return false;
         }
@@ -149,13 +142,35 @@ fn report_all(bytes: &[u8]) -> bool {
     true
 }
 
-fn main() {
-    let mut input = [0u8; MOST_INPUT];
-    let Input::Arrived(arrived) = desk::read_file(&mut input, STDIN_FILENO) else {
-        desk::tell_not_read();
+// Zeros, to read the input into. A proof that lends them needs their number alone.
+fn zeros<const N: usize>() -> [u8; N]
+    ensures { N ≡ length result }
+{
+    [0; N]
+}
+
+// Reads the records of a file, as far as the buffer holds them, and reports each. What failed is told on standard error.
+fn report_file<F: Read, W: Write, E: Write>(
+    buffer: &mut [u8],
+    file: &mut F,
+    out: &mut W,
+    errors: &mut E,
+) {
+    let Input::Arrived(arrived) = desk::read_file(buffer, file) else {
+        desk::tell_not_read(errors);
         return;
     };
-    if !report_all(&input[..arrived]) {
-        desk::tell_not_written();
+    if !report_all(out, &buffer[..arrived]) {
+        desk::tell_not_written(errors);
     }
+}
+
+fn main(rt: HostRuntime) {
+    let mut input = zeros::<MOST_INPUT>();
+    report_file(
+        &mut input,
+        &mut rt.stdin(),
+        &mut rt.stdout(),
+        &mut rt.stderr(),
+    );
 }

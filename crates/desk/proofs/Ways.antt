@@ -19,9 +19,6 @@ use Rattle.files.proofs.Promises.{versed_success}
 use Rattle.files.specs.declared.Form.TheVariants.{Rules}
 use Rattle.files.specs.declared.Unpacked.{Unpacked}
 use Rattle.files.specs.declared.Unpacked.TheVariants as unpacked
-use Rattle.desk.specs.Input.{arrived_of}
-use Rattle.desk.specs.declared.Input.{Input}
-use Rattle.desk.specs.declared.Input.TheVariants.{Arrived}
 use Rattle.desk.specs.Desk.{most_bytes, zeros, onward, translated, Within, counting, refusing, Translates, Counts, count_of, image_zeros, outcome_text, answer_text}
 
 -- an outcome on an output of m words: it counts no more, and leaves as many
@@ -112,12 +109,6 @@ a_shown bs text a {r} {o} c t e =
 pub p_inside : {a : Answer} {r : ℕ} {o : List ℕ} (ws text : List ℕ) → Counts a r → told a o ≡ filled ws text → r ≤ length o
 p_inside {a} ws text c e = rw (told_kept a e (sound (filled_shaped ws text)), c.is) (within_most (told_within a e (sound (filled_shaped ws text))))
 
--- the part of the input that arrived
-pub i_inside : {i : Input} {n m : ℕ} → i ≡ Arrived n → arrived_of i ≤ m → n ≤ m
-i_inside {m = m} k h = subst (λ x. arrived_of x ≤ m) k h
-
 -- a part is as long as was counted
 pub taken : (n : ℕ) (l : List ℕ) → n ≤ length l → n ≡ length (take n l)
 taken n l h = sym (length-take-le n l h)
-
-pub ruleset ways = (t_long, t_refused, t_inside, t_written, c_refusal, c_count, a_inside, a_shown, p_inside, i_inside, taken)

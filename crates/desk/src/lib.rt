@@ -1,5 +1,6 @@
 // The bench's desk: a file of the rules' form comes in, and the whole answer goes out as text. The programs are thin over this.
 #![tactic(auto)]
+
 ghost use Rattle.std.specs.Prelude.{◌≡◌, ◌≤◌, length};
 ghost use Rattle.language.specs.Calls.{told, filled};
 ghost use Rattle.desk.specs.Input.{arrived_of};
@@ -7,7 +8,7 @@ ghost use Rattle.desk.specs.Desk.{Counts, Translates, answer_text};
 
 use files::{Form, Unpacked};
 use language::Answer;
-use libc::{STDERR_FILENO, STDOUT_FILENO};
+use std::io::{Read, Write};
 
 // The bytes of the longest file of the rules' form.
 const MOST_BYTES: usize = 8199;
@@ -37,6 +38,7 @@ fn translate(out: &mut [u16], bytes: &[u8]) -> Answer
 }
 
 // How many words or bytes an answer counts.
+#[tactic(auto, using(crate::proofs::Ways::c_refusal, crate::proofs::Ways::c_count))]
 fn counted(answer: Answer) -> usize
     ensures { Counts answer result }
 {
@@ -57,16 +59,14 @@ fn answer(text: &mut [u8], bytes: &[u8]) -> Answer
 }
 
 // Reads a file to its end, or until the buffer is full.
-pub fn read_file(buffer: &mut [u8], file: i32) -> Input
+pub fn read_file<F: Read>(buffer: &mut [u8], file: &mut F) -> Input
     ensures { arrived_of result ≤ length buffer.new }
 {
     let mut arrived = 0;
     while arrived < buffer.len() {
-        let got = libc::read(file, &mut buffer[arrived..]);
-        if got < 0 {
+        let Ok(more) = file.read(&mut buffer[arrived..]) else {
             return Input::Failed;
-        }
-        let more = io::count(got, &buffer[arrived..]);
+        };
         if more == 0 {
             return Input::Arrived(arrived);
         }
@@ -76,32 +76,29 @@ pub fn read_file(buffer: &mut [u8], file: i32) -> Input
 }
 
 // The two lines for standard error. Where that fails too, nothing more can be done.
-pub fn tell_not_read() {
-    io::write_all(STDERR_FILENO, b"peatnickel: the input could not be read\n");
+pub fn tell_not_read<E: Write>(errors: &mut E) {
+    let _ = errors.write_all(b"peatnickel: the input could not be read\n");
 }
 
-pub fn tell_not_written() {
-    io::write_all(
-        STDERR_FILENO,
-        b"peatnickel: the answer could not be written whole\n",
-    );
+pub fn tell_not_written<E: Write>(errors: &mut E) {
+    let _ = errors.write_all(b"peatnickel: the answer could not be written whole\n");
 }
 
 // Prints the whole answer to the bytes that arrived; says whether all of it was written.
-fn print_answer(bytes: &[u8]) -> bool {
+fn print_answer<W: Write>(out: &mut W, bytes: &[u8]) -> bool {
     let mut text = [0u8; MOST_TEXT];
     let size = counted(answer(&mut text, bytes));
-    io::write_all(STDOUT_FILENO, &text[..size])
+    out.write_all(&text[..size]).is_ok()
 }
 
 // Reads a file to its end, or until more has arrived than the longest has, and prints the whole answer. What failed is told on standard error.
-pub fn answer_file(file: i32) {
+pub fn answer_file<F: Read, W: Write, E: Write>(file: &mut F, out: &mut W, errors: &mut E) {
     let mut input = [0u8; MOST_BYTES + 1];
     let Input::Arrived(arrived) = read_file(&mut input, file) else {
-        tell_not_read();
+        tell_not_read(errors);
         return;
     };
-    if !print_answer(&input[..arrived]) {
-        tell_not_written();
+    if !print_answer(out, &input[..arrived]) {
+        tell_not_written(errors);
     }
 }

@@ -1,17 +1,17 @@
 -- The ways out of the functions that make text, in the words of the code: one law for each.
 -- Assumes nothing.
-use Prim.Native.Nat.{ℕ, zero, suc, ◌+◌, ◌-◌, ◌*◌, ◌/◌, ◌%◌, ◌^◌, ◌<◌, ◌≤◌}
+use Prim.Native.Nat.{ℕ, zero, suc, ◌+◌, ◌-◌, ◌*◌, ◌/◌, ◌^◌, ◌<◌, ◌≤◌}
 use mathlib.Core.Path.{◌≡◌, refl, sym, ap, ◌∙◌, subst}
 use mathlib.Core.Bool.{Bool, true, false, cond}
-use mathlib.Core.List.{List, [], ◌∷◌, ◌++◌, append-nil, append_assoc}
+use mathlib.Core.List.{List, [], ◌∷◌, ◌++◌, append_assoc}
 use native.Mathlib.Omega.{arith}
 use native.Mathlib.Nat.{le_antisymm, pow-le-pow_right}
 use native.Mathlib.Numerals.{add-one, towards_suc}
 use lib.Dec.{ltb}
-use lib.ListN.{length, get_or, take, drop, set, length-append, length-drop, length-set, drop_of_length-le}
-use lib.Seq.{sets, sets-eq, drop-cons, drop-drop, take_all, take-length}
+use lib.ListN.{length, get_or, take, drop, set, length-append, length-set, drop_of_length-le}
+use lib.Seq.{sets, sets-eq, drop-cons, drop-drop}
 use borrow.Rule.Slice.PartMut.{put_mid}
-use borrow.Author.Tests.{ltb-true, ltb-false, lt-ltb, le-ltb, eq-eqb, ne_eqb}
+use borrow.Author.Tests.{ltb-true, ltb-false}
 use Rattle.io.specs.Counts.{IsPrefixLen}
 use Rattle.io.specs.Digits.{last_digits, IsDigitCount}
 use Rattle.language.specs.Read.{no_place}
@@ -20,29 +20,7 @@ use Rattle.language.specs.declared.Answer.{Answer}
 use Rattle.language.specs.declared.Answer.TheVariants.{Count, Refusal}
 use Rattle.language.proofs.Stores.{store_more, store_last, store_rest, filled_short, filled_whole}
 use Rattle.listing.specs.Spelled.{Spelled}
-use Rattle.listing.specs.Text.{space, newline, hex_digit, end_of, word_text, listed, enough, places_of, decimal_text, number_text, ok_text, no_text, line, reply_text}
-
--- a digit
-pub below_ten : (d : ℕ) → d < 10 → 48 + d ≡ hex_digit d
-below_ten d h = simp (lt-ltb d 10 h)
-
-pub from_ten : (d : ℕ) → 10 ≤ d → 55 + d ≡ hex_digit d
-from_ten d h = simp (le-ltb d 10 h)
-
--- what stands after a word
-pub last_word : (n i : ℕ) → i + 1 ≡ n → newline ≡ end_of n i
-last_word n i e = simp (eq-eqb (i + 1) n e)
-
-pub line_full : (n i : ℕ) → (i + 1 ≡ n → ⊥) → i % 8 ≡ 7 → newline ≡ end_of n i
-line_full n i k e = simp (ne_eqb (i + 1) n k, eq-eqb (i % 8) 7 e)
-
-pub within_line : (n i : ℕ) → (i + 1 ≡ n → ⊥) → (i % 8 ≡ 7 → ⊥) → space ≡ end_of n i
-within_line n i k e = simp (ne_eqb (i + 1) n k, ne_eqb (i % 8) 7 e)
-
--- a word's text
-pub word_stored : (l : List ℕ) (at w e : ℕ) {a b c d : ℕ} → a ≡ hex_digit (w / 4096) → b ≡ hex_digit (w / 256 % 16) → c ≡ hex_digit (w / 16 % 16)
-    → d ≡ hex_digit (w % 16) → set (set (set (set (set l at a) (at + 1) b) (at + 2) c) (at + 3) d) (at + 4) e ≡ sets l at (word_text w e)
-word_stored l at w e p q r s = rw (p, q, r, s) (simp towards_suc)
+use Rattle.listing.specs.Text.{space, newline, end_of, word_text, listed, enough, places_of, decimal_text, number_text, ok_text, no_text, line, reply_text}
 
 -- the loop over words: what is still to be stored, stored from where the loop is, gives the whole
 pub next_word : (o goal ws : List ℕ) (at n i : ℕ) {o' : List ℕ} {e : ℕ} → o' ≡ sets o (at + 5 * i) (word_text (get_or ws i 0) e) → e ≡ end_of n i
@@ -91,17 +69,13 @@ spelled n k t m c f e =
 spelled_length : {n k : ℕ} {t : List ℕ} → Spelled n k t → length (decimal_text n) ≡ k
 spelled_length x = ap length (sym x.is) ∙ sym x.counts.1
 
--- a space and a number: the digits are copied to the front of what lies behind the space
-copied : (l ds : List ℕ) (at : ℕ) {o : List ℕ} → at + length ds ≤ length l
-    → o ≡ take (length ds) ds ++ drop (length ds) (take (length l - at) (drop at l)) → put_mid at (length l - at) l o ≡ sets l at ds
-copied l ds at h e =
-    let r : length (drop at l) ≤ length l - at = simp length-drop (omega arith) in
-    rw (e, take-length, take_all _ _ r, drop-drop, drop_of_length-le (drop at l) r, append-nil, sets-eq ds l at h, append_assoc)
+-- a space and a number: the digits are stored behind the space
+copied : (l ds : List ℕ) (at : ℕ) → at + length ds ≤ length l → put_mid at (length ds) l ds ≡ sets l at ds
+copied l ds at h = rw (drop-drop, sets-eq ds l at h, append_assoc)
 
-pub number_stored : (l ds : List ℕ) (at : ℕ) {o : List ℕ} → at + 1 + length ds ≤ length l
-    → o ≡ take (length ds) ds ++ drop (length ds) (take (length (set l at space) - (at + 1)) (drop (at + 1) (set l at space)))
-    → put_mid (at + 1) (length (set l at space) - (at + 1)) (set l at space) o ≡ sets l at (space ∷ ds)
-number_stored l ds at h e = copied (set l at space) ds (at + 1) (simp length-set (omega arith)) e ∙ simp towards_suc
+pub number_stored : (l ds : List ℕ) (at n : ℕ) {o : List ℕ} → at + 1 + length ds ≤ length l → o ≡ ds → n ≡ length ds
+    → put_mid (at + 1) n (set l at space) o ≡ sets l at (space ∷ ds)
+number_stored l ds at n h e k = rw (e, k) (copied (set l at space) ds (at + 1) (simp length-set (omega arith)) ∙ simp towards_suc)
 
 -- a line: its start is stored, and its end behind it
 line_length : (start : List ℕ) → length (line start) ≡ length start + 1
@@ -162,20 +136,3 @@ pub image_shown : {a : Answer} {n : ℕ} {x : Outcome ℕ} (ws out : List ℕ) �
     → x ≡ filled (reply_text (reply_of a) ws) out
 unfolding reply_text reply_of
 image_shown ws out k h = rw h k
-
-pub ruleset ways = (
-  below_ten,
-  from_ten,
-  last_word,
-  line_full,
-  within_line,
-  word_stored,
-  words_end,
-  spelled,
-  number_stored,
-  refusal_short,
-  refusal_whole,
-  image_short,
-  words_too_many,
-  image_whole,
-)

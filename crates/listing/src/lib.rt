@@ -1,5 +1,6 @@
 // The bench program's answer as text: a line with the reply, and the image's words in upper case, eight to a line.
 #![tactic(auto)]
+
 ghost use Rattle.std.specs.Prelude.{◌≡◌, ◌+◌, ◌*◌, ◌≤◌, ◌<◌, ◌∷◌, ◌++◌, length};
 ghost use Rattle.std.proofs.lemmas.List.Edits.{sets};
 ghost use Rattle.language.specs.Calls.{reply_of, told, filled};
@@ -73,6 +74,7 @@ pub fn put_words(out: &mut [u8], at: usize, words: &[u16])
 }
 
 // A number's decimal digits, at the front of the buffer, and how many there are.
+#[tactic(auto, using(crate::proofs::Ways::spelled))]
 fn spell(buffer: &mut [u8; MOST_DIGITS], n: u64) -> usize
     ensures { Spelled n result buffer.new }
 {
@@ -80,13 +82,15 @@ fn spell(buffer: &mut [u8; MOST_DIGITS], n: u64) -> usize
 }
 
 // A space and a number's digits.
+#[tactic(auto, using(crate::proofs::Ways::number_stored))]
 fn put_number(out: &mut [u8], at: usize, digits: &[u8])
     requires { at + 1 + length digits.now ≤ length out.old }
     ensures { out.new ≡ sets out.old at (space ∷ digits.now) }
 {
     out[at] = SPACE;
     let from = at + 1;
-    bytes::copy(digits, &mut out[from..]);
+    let end = from + digits.len();
+    out[from..end].copy_from_slice(digits);
 }
 
 // The start of a line: two letters, a space and a number's digits.
@@ -100,6 +104,7 @@ fn put_start(out: &mut [u8], a: u8, b: u8, digits: &[u8])
 }
 
 // A refusal's number and its place.
+#[tactic(auto, using(crate::proofs::Ways::refusal_short, crate::proofs::Ways::refusal_whole))]
 fn show_refusal(out: &mut [u8], e: u8, p: usize) -> Answer
     ensures { told result out.new ≡ filled (line (no_text e ++ number_text p)) out.old }
 {
@@ -119,6 +124,7 @@ fn show_refusal(out: &mut [u8], e: u8, p: usize) -> Answer
 }
 
 // An image's count and its words.
+#[tactic(auto, using(crate::proofs::Ways::image_short, crate::proofs::Ways::words_too_many, crate::proofs::Ways::image_whole))]
 fn show_image(out: &mut [u8], n: usize, words: &[u16]) -> Answer
     ensures { told result out.new ≡ filled (line (ok_text n) ++ listed (length words.now) 0 words.now) out.old }
 {
@@ -138,6 +144,7 @@ fn show_image(out: &mut [u8], n: usize, words: &[u16]) -> Answer
 }
 
 // The bench program's whole answer, at the front of the output: a line with the reply, and on success the image's words.
+#[tactic(auto, using(crate::proofs::Ways::refusal_shown, crate::proofs::Ways::image_shown))]
 pub fn show(out: &mut [u8], answer: Answer, words: &[u16]) -> Answer
     ensures { told result out.new ≡ filled (reply_text (reply_of answer) words.now) out.old }
 {

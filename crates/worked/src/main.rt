@@ -1,35 +1,46 @@
 // Answers the worked rules by file, as the bench program would, each after its name: 1a.lrs, 1b.lrs and so on, then 2a.lrs and on. The first sign is
-#![tactic(auto)]
 // the version that the files of a set are about.
-use libc::STDOUT_FILENO;
+#![tactic(auto)]
+
+use std::fmt::InlineText;
+use std::fs::File;
+use std::io::Write;
+use std::rt::Files;
 
 const LETTERS: usize = 26;
 
+// The most bytes of a file's name: two signs of at most two bytes, and `.lrs`.
+const MOST_NAME: usize = 8;
+
 // Answers the file of a letter in a set; says whether there is one.
-fn answer_letter(set: u8, letter: u8) -> bool {
-    let path = [set, letter, b'.', b'l', b'r', b's'];
-    let file = os::open_read(&path);
-    if file < 0 {
+fn answer_letter<R: Files, W: Write, E: Write>(
+    rt: &R,
+    out: &mut W,
+    errors: &mut E,
+    set: u8,
+    letter: u8,
+) -> bool {
+    let (set_sign, letter_sign) = (char::from(set), char::from(letter));
+    let path = InlineText::<MOST_NAME>::of(format_args!("{set_sign}{letter_sign}.lrs"));
+    let Ok(mut file) = File::open(rt, path.as_str()) else {
         return false;
-    }
-    io::write_all(STDOUT_FILENO, &[set, letter, b'\n']);
-    desk::answer_file(file);
-    libc::close(file);
+    };
+    let _ = out.write_all(&[set, letter, b'\n']);
+    desk::answer_file(&mut file, out, errors);
     true
 }
 
 // Answers the files of a set, from its first letter on.
-fn answer_set(set: u8) {
-    let mut i = 0;
-    while i < LETTERS {
-        if !answer_letter(set, b'a' + i as u8) {
+fn answer_set<R: Files, W: Write, E: Write>(rt: &R, out: &mut W, errors: &mut E, set: u8) {
+    for i in 0..LETTERS {
+        if !answer_letter(rt, out, errors, set, b'a' + i as u8) {
             return;
         }
-        i += 1;
     }
 }
 
-fn main() {
-    answer_set(b'1');
-    answer_set(b'2');
+fn main(rt: HostRuntime) {
+    let (mut out, mut errors) = (rt.stdout(), rt.stderr());
+    answer_set(&rt, &mut out, &mut errors, b'1');
+    answer_set(&rt, &mut out, &mut errors, b'2');
 }
