@@ -1,5 +1,6 @@
 // Runs the translator on many rules: standard input holds records, each a version, a count of words and the words, all low byte first. Of each it
 // prints the refusal and its place, or the image's count and checksum, and the image itself where it is short.
+
 #![tactic(auto)]
 
 ghost use Rattle.std.specs.Prelude.{◌≡◌, ◌+◌, ◌*◌, ◌<◌, ◌≤◌, length};

@@ -1,4 +1,5 @@
 // The bench's desk: a file of the rules' form comes in, and the whole answer goes out as text. The programs are thin over this.
+
 #![tactic(auto)]
 
 ghost use Rattle.std.specs.Prelude.{◌≡◌, ◌≤◌, length};

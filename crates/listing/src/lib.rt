@@ -1,4 +1,5 @@
 // The bench program's answer as text: a line with the reply, and the image's words in upper case, eight to a line.
+
 #![tactic(auto)]
 
 ghost use Rattle.std.specs.Prelude.{◌≡◌, ◌+◌, ◌*◌, ◌≤◌, ◌<◌, ◌∷◌, ◌++◌, length};

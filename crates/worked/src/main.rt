@@ -1,5 +1,6 @@
 // Answers the worked rules by file, as the bench program would, each after its name: 1a.lrs, 1b.lrs and so on, then 2a.lrs and on. The first sign is
 // the version that the files of a set are about.
+
 #![tactic(auto)]
 
 use std::fmt::InlineText;
