@@ -2,28 +2,32 @@
 -- such steps. A term's words put some steps before a pass over what stands behind the term: where the term stands in a function's body,
 -- they pass over one piece; else they join the term's answer to that pass's.
 -- Assumes nothing.
-use Prim.Native.Nat.{ℕ, zero, suc, ◌+◌, ◌-◌, ◌≤◌, ◌<◌}
+use Prim.Native.Nat.{ℕ, zero, suc, ◌+◌, ◌-◌, ◌%◌, ◌≤◌, ◌<◌}
 use mathlib.Core.Path.{◌≡◌, refl, sym, ap, ap₂, subst, subst₂, ◌∙◌}
 use mathlib.Core.Bool.{Bool, true, false, ◌&&◌, and_assoc, and-true}
-use mathlib.Core.List.{List}
+use mathlib.Core.List.{List, ◌∷◌}
 use native.Mathlib.Omega.{arith}
-use lib.ListN.{length}
+use lib.ListN.{length, get_or}
 use borrow.Author.Rules.{rules as bounds}
 use borrow.Author.Tests.{lt-ltb}
-use Rattle.language.specs.Term.{rules, Term, Terms, size, sizeᵃ}
-use Rattle.language.specs.Words.{words, wordsᵗ}
-use Rattle.language.specs.Limits.{Ranged, Rangedᵗ, r_var, r_kvar, r_fun, r_call, r_bind, r_con, r_cases, r_num, r_op, r_nil, r_cons}
+use Rattle.language.specs.Term.{rules, Term, Terms, Arms, size, sizeᵃ}
+use Rattle.language.specs.Kinds.{most_byte, row_at}
+use Rattle.language.specs.Words.{head, words, wordsᵗ, wordsᵃ}
+use Rattle.language.specs.Limits.{Ranged, Rangedᵗ, Rangedᵃ, r_var, r_kvar, r_fun, r_call, r_bind, r_con, r_cases, r_num, r_op, r_nil, r_cons, r_none, r_arm}
 use Rattle.language.specs.Run.{atom, atoms}
 use Rattle.language.specs.Places.{Held}
+use Rattle.language.specs.declared.Parts.{Parts}
+use Rattle.language.specs.declared.Parts.TheVariants.{Body}
+use Rattle.language.specs.declared.Row.{Row}
 use Rattle.language.proofs.Clash.{never}
+use Rattle.language.proofs.Heads.{of_kind}
 use Rattle.language.proofs.Places.{first_run, second_run, first_word, next_words, ends}
 use Rattle.atoms.specs.Standing.{term, Stands, Seen, AtomAt, form_at}
-use Rattle.atoms.specs.Openings.{head_words, pieces_of, opening_at, Whole, OpensAt, tested, rest_after}
+use Rattle.atoms.specs.Openings.{head_words, pieces_of, pieces_at, opening_at, Whole, OpensAt, tested, rest_after}
 use Rattle.atoms.specs.declared.Opening.{Opening}
 use Rattle.atoms.specs.declared.Rest.{Rest}
 use Rattle.atoms.specs.declared.Rest.TheVariants.{Left, NoAtom}
 use Rattle.atoms.proofs.Standing.{term_least}
-use Rattle.atoms.proofs.Over.{opens, opens_fun, over}
 
 -- From `at` on, with i pieces to be passed over and then n terms to be tested, which all stand in s, the pass answers b.
 pub data Pass (s : List ℕ) (b : Bool) : ℕ → ℕ → ℕ → Type 0 where
@@ -63,13 +67,33 @@ module _ {s : List ℕ} {b : Bool} where
   says_yes (went h z e q p) l = absurd (omega arith)
   says_yes (stopped h z e w q) l = absurd (omega arith)
 
--- where pieces are to be passed over, a head takes one away and puts its own before the others
-past : (o : Opening) (i n : ℕ) → 0 < i → rest_after o i n ≡ Left (i - 1 + o.pieces) n
-unfolding rest_after
-past o i n c = simp (lt-ltb 0 i c)
+-- what a head of the form P with the low byte n opens, before the word m
+abbrev opening : Parts → ℕ → ℕ → Opening
+opening P n m = record { parts = P; words = head_words P; pieces = pieces_of P n m }
+
+-- what a head of the kind k and the low byte a opens, where it stands
+module _ {s : List ℕ} {at to : ℕ} where
+  opens : (k a : ℕ) {ws : List ℕ} → Held s (head k a ∷ ws) at to → a ≤ most_byte
+      → opening_at s at ≡ opening (row_at k).parts a (get_or s (at + 1) 0)
+  unfolding opening_at pieces_at form_at
+  opens k a h l =
+      let e : get_or s at 0 % 256 ≡ a = omega (arith, first_word h) in
+      let f : form_at s at ≡ (row_at k).parts = ap (λ (r : Row). r.parts) (sym (of_kind (get_or s at 0) k a (first_word h) l refl)) in
+      rw (e, f)
+
+  opens_fun : (o a : ℕ) {ws : List ℕ} → o ≤ 1 → Held s (head (2 + o) a ∷ ws) at to → a ≤ most_byte
+      → opening_at s at ≡ opening Body a (get_or s (at + 1) 0)
+  opens_fun zero a e h l = opens 2 a h l
+  opens_fun (suc zero) a e h l = opens 3 a h l
+  opens_fun (suc (suc o)) a e h l = absurd (omega arith)
 
 -- the steps of a pass, where it is known what the head opens
 module _ {s : List ℕ} {at : ℕ} (o : Opening) (e : opening_at s at ≡ o) where
+  over : {b : Bool} {to i j n : ℕ} → to ≡ at + o.words → 0 < n → at < to → 0 < i → j ≡ i - 1 + o.pieces → Pass s b to j n → Pass s b at i n
+  unfolding rest_after
+  over {to} {i} {j} {n} q z l c d p =
+      went {at = at} {i = i} {n = n} {j = j} {m = n} {to = to} (omega (arith, fits p)) z (simp (e, lt-ltb 0 i c, d)) (rw e q) p
+
   on : {b : Bool} {to j n m : ℕ} → to ≡ at + o.words → tested o.parts o.pieces n ≡ Left j m → 0 < n → at + n ≤ length s → Pass s b to j m
       → Pass s b at 0 n
   unfolding rest_after
@@ -79,20 +103,51 @@ module _ {s : List ℕ} {at : ℕ} (o : Opening) (e : opening_at s at ≡ o) whe
   unfolding rest_after
   off {n} w c z l = stopped {at = at} {i = 0} {n = n} (omega arith) z (simp (e, c)) (simp e (omega arith)) refl
 
--- what stands in a function's body is passed over, where terms are to be tested behind it
-pass : {s : List ℕ} {b : Bool} {n : ℕ} → 0 < n → {t : Term} {at to : ℕ} → Ranged rules t → Held s (words rules t) at to → Pass s b to 0 n
-    → Pass s b at 1 n
-pass {s} {b} {n} z r k p = over s (λ at i. Pass s b at i n) step r k refl p
-  where
-    step : (at i : ℕ) → 0 < i → 0 < (opening_at s at).words → Pass s b (at + (opening_at s at).words) (i - 1 + (opening_at s at).pieces) n → Pass s b at i n
-    step at i c l q =
-        let o = opening_at s at in
-        went {at = at} {i = i} {n = n} {j = i - 1 + o.pieces} {m = n} {to = at + o.words} (omega (arith, fits q)) z (past o i n c) refl q
+-- What stands in a function's body is passed over: a term is one piece, a list and arms are as many as they have.
+module _ {s : List ℕ} {b : Bool} {n : ℕ} (z : 0 < n) where
+  mutual
+    unfolding words size sizeᵃ head_words pieces_of
+
+    pass : {t : Term} {at to i j : ℕ} → Ranged rules t → Held s (words rules t) at to → j ≡ i + 1 → Pass s b to i n → Pass s b at j n
+    pass (r_var {i = v} h) k e p = over _ (opens 1 v k h) k.past z (omega (arith, k.past)) (omega arith) (omega arith) p
+    pass (r_kvar a h) k e p = absurd a
+    pass (r_fun {o} {a} l h m r) k e p =
+        over _ (opens_fun o (a + 0) l k (omega arith)) refl z (omega arith) (omega arith) (omega arith) (pass r (next_words k) refl p)
+    pass (r_call {f} {ps} l h r rs) k e p =
+        let k' = next_words k in
+        over _ (opens 4 (size ps) k (omega arith)) refl z (omega arith) (omega arith) (omega arith)
+        (pass r (first_run (words rules f) (wordsᵗ rules ps) k') refl (passᵗ rs (second_run (words rules f) (wordsᵗ rules ps) k') refl p))
+    pass (r_bind {m} {b = c} r r') k e p =
+        let k' = next_words k in
+        over _ (opens 5 0 k (omega arith)) refl z (omega arith) (omega arith) (omega arith)
+        (pass r (first_run (words rules m) (words rules c) k') refl (pass r' (second_run (words rules m) (words rules c) k') refl p))
+    pass (r_con {t} {ps} h l rs) k e p =
+        let k' = next_words k in
+        let c = first_word k' in
+        over _ (opens 6 t k h) (omega arith) z (omega arith) (omega arith) (omega arith) (passᵗ rs (next_words k') refl p)
+    pass (r_cases {m} {ps} l h r rs) k e p =
+        let k' = next_words k in
+        over _ (opens 7 (sizeᵃ ps) k (omega arith)) refl z (omega arith) (omega arith) (omega arith)
+        (pass r (first_run (words rules m) (wordsᵃ rules ps) k') refl (passᵃ rs (second_run (words rules m) (wordsᵃ rules ps) k') refl p))
+    pass (r_num h) k e p = over _ (opens 10 0 k (omega arith)) k.past z (omega (arith, k.past)) (omega arith) (omega arith) p
+    pass (r_op {o} h l rs) k e p = over _ (opens 11 o k (omega arith)) refl z (omega arith) (omega arith) (omega arith) (passᵗ rs (next_words k) refl p)
+
+    passᵗ : {ts : Terms} {at to i j : ℕ} → Rangedᵗ rules ts → Held s (wordsᵗ rules ts) at to → j ≡ i + size ts → Pass s b to i n → Pass s b at j n
+    passᵗ r_nil k e p = subst₂ (λ (x y : ℕ). Pass s b x y n) (omega (arith, k.past)) (omega arith) p
+    passᵗ (r_cons {t} {ts} r rs) k e p =
+        pass r (first_run (words rules t) (wordsᵗ rules ts) k) (omega arith) (passᵗ rs (second_run (words rules t) (wordsᵗ rules ts) k) refl p)
+
+    passᵃ : {ps : Arms} {at to i j : ℕ} → Rangedᵃ rules ps → Held s (wordsᵃ rules ps) at to → j ≡ i + sizeᵃ ps → Pass s b to i n → Pass s b at j n
+    passᵃ r_none k e p = subst₂ (λ (x y : ℕ). Pass s b x y n) (omega (arith, k.past)) (omega arith) p
+    passᵃ (r_arm {t} {n = a} {b = c} {ps} h l r rs) k e p =
+        let k' = next_words (next_words k) in
+        over _ (opens 8 t k h) (omega arith) z (omega arith) (omega arith) (omega arith)
+        (pass r (first_run (words rules c) (wordsᵃ rules ps) k') refl (passᵃ rs (second_run (words rules c) (wordsᵃ rules ps) k') refl p))
 
 -- the body of a function behind which n terms are to be tested: where there are none, the pass has ended
 body : {s : List ℕ} {b : Bool} {c : Term} {at to : ℕ} (n : ℕ) → Ranged rules c → Held s (words rules c) at to → Pass s b to 0 n → Pass s b at 1 n
-body {c} {at} zero r k p = ended {at = at} {i = 1} {n = 0} (omega (arith, fits p, k.past, term_least rules c)) refl (says_yes p refl)
-body (suc n) r k p = pass (omega arith) r k p
+body {c} {at} zero r k p = ended {at = at} {i = 1} {n = 0} (omega (arith, fits p, k.past, term_least c)) refl (says_yes p refl)
+body (suc n) r k p = pass (omega arith) r k refl p
 
 -- What must be an atom is tested, and after it what stands behind it.
 module _ {s : List ℕ} where
@@ -137,7 +192,7 @@ module _ {d : ℕ} {s : List ℕ} {at : ℕ} (k : Stands (term d) s at) where
   -- it begins with one term to be tested
   pub begins : Going d s at at 0 1
   begins = going λ t e x.
-      let w : e ≤ length s = ends (term_least rules t).0 x.held in
+      let w : e ≤ length s = ends (term_least t).0 x.held in
       subst (λ (b : Bool). Pass s b at 0 1) (and-true (atom t)) (test x.good.0 x.held refl (ended {at = e} {i = 0} {n = 0} (omega arith) refl refl))
 
   module _ {to i n : ℕ} (g : Going d s at to i n) where

@@ -154,18 +154,21 @@ number_there o_num k = omega (arith, there (next_words (next_words k.held)))
 reach : {s ws : List ℕ} {at to : ℕ} → Held s ws at to → length ws ≤ length s - at
 reach {s} {ws} {at} {to} h = omega (arith, ap length h.words, length-append ws (drop to s), length-drop at s)
 
--- a term has a word and a level; an arm has two words
-pub term_least : (L : Lang) (t : Term) → (1 ≤ length (words L t)) × (1 ≤ depth t)
+-- a term has a word and a level, in either language; an arm has two words
+pub term_least_in : (L : Lang) (t : Term) → (1 ≤ length (words L t)) × (1 ≤ depth t)
 unfolding words depth
-term_least L (var i) = omega arith
-term_least L (kvar i) = omega arith
-term_least L (fun o a b) = omega arith
-term_least L (call f ps) = omega arith
-term_least L (bind m b) = omega arith
-term_least L (con t ps) = omega arith
-term_least L (cases m ps) = omega arith
-term_least L (num n) = omega arith
-term_least L (op o ps) = omega arith
+term_least_in L (var i) = omega arith
+term_least_in L (kvar i) = omega arith
+term_least_in L (fun o a b) = omega arith
+term_least_in L (call f ps) = omega arith
+term_least_in L (bind m b) = omega arith
+term_least_in L (con t ps) = omega arith
+term_least_in L (cases m ps) = omega arith
+term_least_in L (num n) = omega arith
+term_least_in L (op o ps) = omega arith
+
+pub term_least : (t : Term) → (1 ≤ length (words rules t)) × (1 ≤ depth t)
+term_least t = term_least_in rules t
 
 arms_least : (ps : Arms) → 2 * sizeᵃ ps ≤ length (wordsᵃ rules ps)
 unfolding words sizeᵃ
@@ -173,10 +176,10 @@ arms_least none = omega arith
 arms_least (arm t n b ps) = omega (arith, arms_least ps, length-append (words rules b) (wordsᵃ rules ps))
 
 pub term_inside : {s : List ℕ} {at d : ℕ} → Stands (term d) s at → at < length s
-term_inside k = omega (arith, reach k.seen.held, term_least rules k.thing)
+term_inside k = omega (arith, reach k.seen.held, term_least k.thing)
 
 pub term_deep : {s : List ℕ} {at d : ℕ} → Stands (term d) s at → 1 ≤ d
-term_deep k = omega (arith, k.seen.good.1, term_least rules k.thing)
+term_deep k = omega (arith, k.seen.good.1, term_least k.thing)
 
 pub arms_inside : {s : List ℕ} {at d n : ℕ} → Stands (arms d n) s at → 2 * n ≤ length s - at
 arms_inside k = omega (arith, reach k.seen.held, arms_least k.thing, k.seen.good.2)

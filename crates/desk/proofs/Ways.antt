@@ -19,6 +19,9 @@ use Rattle.files.proofs.Promises.{versed_success}
 use Rattle.files.specs.declared.Form.TheVariants.{Rules}
 use Rattle.files.specs.declared.Unpacked.{Unpacked}
 use Rattle.files.specs.declared.Unpacked.TheVariants as unpacked
+use Rattle.desk.specs.Input.{arrived_of}
+use Rattle.desk.specs.declared.Input.{Input}
+use Rattle.desk.specs.declared.Input.TheVariants.{Arrived}
 use Rattle.desk.specs.Desk.{most_bytes, zeros, onward, translated, Within, counting, refusing, Translates, Counts, count_of, image_zeros, outcome_text, answer_text}
 
 -- an outcome on an output of m words: it counts no more, and leaves as many
@@ -112,3 +115,7 @@ p_inside {a} ws text c e = rw (told_kept a e (sound (filled_shaped ws text)), c.
 -- a part is as long as was counted
 pub taken : (n : ℕ) (l : List ℕ) → n ≤ length l → n ≡ length (take n l)
 taken n l h = sym (length-take-le n l h)
+
+-- what arrived stands inside the buffer
+pub i_inside : {i : Input} {n m : ℕ} → i ≡ Arrived n → arrived_of i ≤ m → n ≤ m
+i_inside {m = m} k h = subst (λ x. arrived_of x ≤ m) k h

@@ -1,6 +1,6 @@
 -- The ways out of the functions that make text, in the words of the code: one law for each.
 -- Assumes nothing.
-use Prim.Native.Nat.{ℕ, zero, suc, ◌+◌, ◌-◌, ◌*◌, ◌/◌, ◌^◌, ◌<◌, ◌≤◌}
+use Prim.Native.Nat.{ℕ, zero, suc, ◌+◌, ◌-◌, ◌*◌, ◌/◌, ◌%◌, ◌^◌, ◌<◌, ◌≤◌}
 use mathlib.Core.Path.{◌≡◌, refl, sym, ap, ◌∙◌, subst}
 use mathlib.Core.Bool.{Bool, true, false, cond}
 use mathlib.Core.List.{List, [], ◌∷◌, ◌++◌, append_assoc}
@@ -11,7 +11,7 @@ use lib.Dec.{ltb}
 use lib.ListN.{length, get_or, take, drop, set, length-append, length-set, drop_of_length-le}
 use lib.Seq.{sets, sets-eq, drop-cons, drop-drop}
 use borrow.Rule.Slice.PartMut.{put_mid}
-use borrow.Author.Tests.{ltb-true, ltb-false}
+use borrow.Author.Tests.{ltb-true, ltb-false, lt-ltb, le-ltb, eq-eqb, ne_eqb}
 use Rattle.io.specs.Counts.{IsPrefixLen}
 use Rattle.io.specs.Digits.{last_digits, IsDigitCount}
 use Rattle.language.specs.Read.{no_place}
@@ -20,7 +20,29 @@ use Rattle.language.specs.declared.Answer.{Answer}
 use Rattle.language.specs.declared.Answer.TheVariants.{Count, Refusal}
 use Rattle.language.proofs.Stores.{store_more, store_last, store_rest, filled_short, filled_whole}
 use Rattle.listing.specs.Spelled.{Spelled}
-use Rattle.listing.specs.Text.{space, newline, end_of, word_text, listed, enough, places_of, decimal_text, number_text, ok_text, no_text, line, reply_text}
+use Rattle.listing.specs.Text.{space, newline, hex_digit, end_of, word_text, listed, enough, places_of, decimal_text, number_text, ok_text, no_text, line, reply_text}
+
+-- a digit
+pub below_ten : (d : ℕ) → d < 10 → 48 + d ≡ hex_digit d
+below_ten d h = simp (lt-ltb d 10 h)
+
+pub from_ten : (d : ℕ) → 10 ≤ d → 55 + d ≡ hex_digit d
+from_ten d h = simp (le-ltb d 10 h)
+
+-- what stands after a word
+pub last_word : (n i : ℕ) → i + 1 ≡ n → newline ≡ end_of n i
+last_word n i e = simp (eq-eqb (i + 1) n e)
+
+pub line_full : (n i : ℕ) → (i + 1 ≡ n → ⊥) → i % 8 ≡ 7 → newline ≡ end_of n i
+line_full n i k e = simp (ne_eqb (i + 1) n k, eq-eqb (i % 8) 7 e)
+
+pub within_line : (n i : ℕ) → (i + 1 ≡ n → ⊥) → (i % 8 ≡ 7 → ⊥) → space ≡ end_of n i
+within_line n i k e = simp (ne_eqb (i + 1) n k, ne_eqb (i % 8) 7 e)
+
+-- a word's text
+pub word_stored : (l : List ℕ) (at w e : ℕ) {a b c d : ℕ} → a ≡ hex_digit (w / 4096) → b ≡ hex_digit (w / 256 % 16) → c ≡ hex_digit (w / 16 % 16)
+    → d ≡ hex_digit (w % 16) → set (set (set (set (set l at a) (at + 1) b) (at + 2) c) (at + 3) d) (at + 4) e ≡ sets l at (word_text w e)
+word_stored l at w e p q r s = rw (p, q, r, s) (simp towards_suc)
 
 -- the loop over words: what is still to be stored, stored from where the loop is, gives the whole
 pub next_word : (o goal ws : List ℕ) (at n i : ℕ) {o' : List ℕ} {e : ℕ} → o' ≡ sets o (at + 5 * i) (word_text (get_or ws i 0) e) → e ≡ end_of n i

@@ -2,3 +2,4 @@ pub mod Steps
 pub mod Sums
 pub mod Ways
 pub mod Answers
+pub mod Held

@@ -11,7 +11,7 @@ use Rattle.language.specs.Limits.{Ranged, r_var, r_kvar, r_fun, r_call, r_bind, 
 use Rattle.language.specs.Places.{Held}
 use Rattle.language.specs.Kinds.{most_arguments}
 use Rattle.language.proofs.Places.{first_run, second_run, there, first_word, next_words, ends}
-use Rattle.atoms.proofs.Standing.{term_least}
+use Rattle.atoms.proofs.Standing.{term_least_in}
 use Rattle.records.specs.Links.{link_end}
 use Rattle.taking.specs.Standing.{Stands, Standᵗ, Ends, Constructed, Counts}
 use Rattle.taking.proofs.Heads.{kind_of, told}
@@ -56,7 +56,7 @@ counted_at (r_op h l rs) k e = absurd (omega arith)
 
 module _ {s : List ℕ} {at : ℕ} (k : Stands s at) where
   pub inside : at < length s
-  inside = omega (arith, ends (term_least images k.term).0 k.held, k.held.past, term_least images k.term)
+  inside = omega (arith, ends (term_least_in images k.term).0 k.held, k.held.past, term_least_in images k.term)
 
   pub short_place : at < link_end
   short_place = omega (arith, inside, k.short)

@@ -14,7 +14,7 @@ use Rattle.language.proofs.Places.{ends}
 use Rattle.atoms.specs.Standing.{form_at}
 use Rattle.atoms.specs.Openings.{opening_at, Whole, OpensAt}
 use Rattle.atoms.specs.declared.Opening.{Opening}
-use Rattle.atoms.proofs.Standing.{term_least}
+use Rattle.atoms.proofs.Standing.{term_least_in}
 use Rattle.atoms.proofs.Over.{over}
 use Rattle.taking.specs.Standing.{Stands, Ends}
 
@@ -47,7 +47,7 @@ module _ {s : List ℕ} {at : ℕ} (k : Stands s at) where
 
   -- it begins with the term itself
   pub begins : Going s at at 1
-  begins = going λ t e h r. over s (Skip s e) (λ p i c w q. headed {at = p} {i = i} c w q) r h refl (ended {at = e} {i = 0} refl refl (ends (term_least images t).0 h))
+  begins = going λ t e h r. over s (Skip s e) (λ p i c w q. headed {at = p} {i = i} c w q) r h refl (ended {at = e} {i = 0} refl refl (ends (term_least_in images t).0 h))
 
   module _ {to i : ℕ} (g : Going s at to i) where
     -- where a piece is left, the words of the next head are there
