@@ -2,4 +2,3 @@ pub mod Steps
 pub mod Sums
 pub mod Ways
 pub mod Answers
-pub mod Held
