@@ -1,5 +1,5 @@
 -- What the checking call's answer means: document 01, "Checks in order". Each case has the paper's number and its values; of the measuring call's
--- answer `replyOf` says them.
+-- answer `reply_of` says them.
 use Rattle.language.specs.Calls.{Reply, success, refusal}
 use Rattle.reading.specs.declared.Checked.{Checked}
 use Rattle.reading.specs.declared.Checked.TheVariants.{Success, Refusal}

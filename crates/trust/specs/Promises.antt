@@ -37,7 +37,7 @@ pub data OfWord : ℕ → Type 0 where
   of_rule : {e : ℕ} → 4 ≤ e → e ≤ 8 → OfWord e
   of_dead_arm : OfWord 18
 
--- what the place of a refusal tells its reader. of-version and of_length: 11, 1 and 2, which test no word. of_end: "3 carries the number of words
+-- what the place of a refusal tells its reader. of_version and of_length: 11, 1 and 2, which test no word. of_end: "3 carries the number of words
 -- given". of_word: "the place of the word tested" is that of a word given, and the words up to it decide: whatever follows them, in at most 4,096
 -- words, the refusal is the same
 pub data Placed (S : Setting) (ws : List ℕ) : ℕ → ℕ → Type 0 where

@@ -1,4 +1,4 @@
--- `atoms::is_atom` meets its contract. The loop keeps: the pass, gone on from here, answers whether the term is an atom.
+-- `atoms::is_atom` meets its contract. Each turn, and each way out, is a law of the pass.
 use Rattle.atoms.proofs.Pass.{passes}
 use Rattle.atoms.proofs.is_atom.Goals as goal
 

@@ -1,4 +1,4 @@
--- `files::take_words` meets its contract. The loop keeps: what is still to be stored, stored from i on, gives the whole.
+-- `files::take_words` meets its contract. One word more is stored in each turn.
 use Rattle.files.proofs.Stores.{ways}
 use Rattle.std.proofs.Common.{arith}
 use Rattle.std.proofs.Math.ListN.{length-set}

@@ -1,4 +1,4 @@
--- `runs::put_down` meets its contract: the number of variables falls.
+-- `runs::put_down` meets its contract: no variable is left, or one is written and those below it.
 use Rattle.runs.proofs.Runs.{runs}
 use Rattle.runs.proofs.+put_down.Goals as goal
 
