@@ -79,8 +79,7 @@ fn unpacked_number(a: Unpacked) -> u64
 }
 
 // Whether the words are a rule.
-#[unsafe(no_mangle)]
-pub extern "C" fn peatnickel_check(version: u16, words: &[u16]) -> u32
+pub fn peatnickel_check(version: u16, words: &[u16]) -> u32
     ensures { Means (Asked.check (in_version version) words.now) result }
 {
     match rules::check(version, words) {
@@ -90,29 +89,21 @@ pub extern "C" fn peatnickel_check(version: u16, words: &[u16]) -> u32
 }
 
 // How many words the image of a rule has.
-#[unsafe(no_mangle)]
-pub extern "C" fn peatnickel_measure(version: u16, words: &[u16]) -> u32
+pub fn peatnickel_measure(version: u16, words: &[u16]) -> u32
     ensures { Means (Asked.measure (in_version version) words.now) result }
 {
     number(rules::measure(version, words))
 }
 
 // Writes the image of a rule at the front of the output, and gives its word count.
-#[unsafe(no_mangle)]
-pub extern "C" fn peatnickel_write_apart(out: &mut [u16], version: u16, words: &[u16]) -> u32
+pub fn peatnickel_write_apart(out: &mut [u16], version: u16, words: &[u16]) -> u32
     ensures { Means (Asked.write (in_version version) words.now out.old) (result, out.new) }
 {
     number(rules::write(out, version, words))
 }
 
 // Writes the file of the words, of the form and in the version told, at the front of the output, and gives the bytes written.
-#[unsafe(no_mangle)]
-pub extern "C" fn peatnickel_pack_apart(
-    out: &mut [u8],
-    form: u32,
-    version: u16,
-    words: &[u16],
-) -> u32
+pub fn peatnickel_pack_apart(out: &mut [u8], form: u32, version: u16, words: &[u16]) -> u32
     ensures { Means (Asked.pack form version words.now out.old) (result, out.new) }
 {
     match form_of(form) {
@@ -122,8 +113,7 @@ pub extern "C" fn peatnickel_pack_apart(
 }
 
 // Writes the words of a file, of the form told, at the front of the output, and gives the file's version and how many words. Reads no terms.
-#[unsafe(no_mangle)]
-pub extern "C" fn peatnickel_unpack_apart(out: &mut [u16], form: u32, bytes: &[u8]) -> u64
+pub fn peatnickel_unpack_apart(out: &mut [u16], form: u32, bytes: &[u8]) -> u64
     ensures { Means (Asked.unpack form bytes.now out.old) (result, out.new) }
 {
     match form_of(form) {
