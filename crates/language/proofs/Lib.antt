@@ -8,3 +8,4 @@ pub mod Stores
 pub mod Eval
 pub mod Stuck
 pub mod Cases
+pub mod Faults

@@ -10,7 +10,8 @@ use lib.Seq.{sets, sets-eq}
 use borrow.Author.Tests.{lt-ltb, le-ltb}
 use Rattle.language.specs.Read.{no_place}
 use Rattle.language.specs.Calls.{reply_of, told, filled}
-use Rattle.language.specs.declared.Answer.TheVariants.{Count, Refusal}
+use Rattle.language.specs.declared.Fault.TheVariants.{NoRoom}
+use Rattle.std.specs.Prelude.{Ok, Err}
 
 sets_append : (l : List ℕ) (i : ℕ) (xs ys : List ℕ) → sets l i (xs ++ ys) ≡ sets (sets l i xs) (i + length xs) ys
 sets_append l i [] ys = let e : i ≡ i + 0 = omega arith in ap (λ (n : ℕ). sets l n ys) e
@@ -35,10 +36,10 @@ store_rest o goal i zs xs ys e g q k = rw (e, k, ← sets_append o i xs ys, ← 
 pub at_front : (l ws : List ℕ) → length ws ≤ length l → sets l 0 ws ≡ ws ++ drop (length ws) l
 at_front l ws h = let e : 0 + length ws ≡ length ws = omega arith in sets-eq ws l 0 (omega arith) ∙ ap (λ (n : ℕ). ws ++ drop n l) e
 
-pub filled_short : (ws out : List ℕ) → length out < length ws → told (Refusal 9 no_place) out ≡ filled ws out
+pub filled_short : (ws out : List ℕ) → length out < length ws → told {A = ℕ} (Err (record { fault = NoRoom; place = no_place })) out ≡ filled ws out
 unfolding filled reply_of
 filled_short ws out h = simp (lt-ltb _ _ h)
 
-pub filled_whole : (ws out : List ℕ) {o : List ℕ} {n : ℕ} → length ws ≤ length out → n ≡ length ws → o ≡ sets out 0 ws → told (Count n) o ≡ filled ws out
+pub filled_whole : (ws out : List ℕ) {o : List ℕ} {n : ℕ} → length ws ≤ length out → n ≡ length ws → o ≡ sets out 0 ws → told (Ok n) o ≡ filled ws out
 unfolding filled reply_of
 filled_whole ws out h e k = simp (le-ltb _ _ h, e, k, at_front out ws h)

@@ -1,7 +1,7 @@
 -- What the calls on a rule reply, and what they leave in the lent output: document 01, "Checks in order", and document 02, Wish 1.
-use Rattle.std.specs.Prelude.{ℕ, cond, List, ◌++◌, ltb, length, drop}
-use Rattle.language.specs.declared.Answer.{Answer}
-use Rattle.language.specs.declared.Answer.TheVariants.{Count, Refusal}
+use Rattle.std.specs.Prelude.{ℕ, cond, List, ◌++◌, ltb, length, drop, Result, Ok, Err}
+use Rattle.language.specs.declared.Refusal.{Refusal}
+use Rattle.language.specs.Faults.{number_of}
 use Rattle.language.specs.Term.{images}
 use Rattle.language.specs.Words.{words}
 use Rattle.language.specs.Image.{image}
@@ -18,11 +18,11 @@ pub record Outcome (A : Type 0) : Type 0 where
   pub output : List ℕ
 
 -- what the code's answer means, and what it means with the output that the call left
-unfoldable pub reply_of : Answer → Reply ℕ
-reply_of (Count n) = success n
-reply_of (Refusal e p) = refusal e p
+unfoldable pub reply_of : {A : Type 0} → Result A Refusal → Reply A
+reply_of (Ok x) = success x
+reply_of (Err r) = refusal (number_of r.fault) r.place
 
-abbrev pub told : Answer → List ℕ → Outcome ℕ
+abbrev pub told : {A : Type 0} → Result A Refusal → List ℕ → Outcome A
 told a out = record { reply = reply_of a; output = out }
 
 -- "A refusal .. leaves all that was lent unchanged."

@@ -1,5 +1,6 @@
 pub mod Term
 pub mod Setting
+pub mod Faults
 pub mod Kinds
 pub mod Words
 pub mod Scope

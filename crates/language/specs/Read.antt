@@ -6,11 +6,9 @@ use Rattle.std.specs.Prelude.{ℕ, zero, suc, ◌+◌, ◌*◌, ◌%◌, cond, L
 use Rattle.language.specs.declared.Parts.{Parts}
 use Rattle.language.specs.declared.Parts.TheVariants.{Nothing, Body, FunctionAndArguments, BoundAndBody, CountAndArguments, SubjectAndArms, ArityAndBody, HighAndLow, TwoParts}
 use Rattle.language.specs.declared.Row.{Row}
-use Rattle.language.specs.declared.Head.{Head}
-use Rattle.language.specs.declared.Head.TheVariants.{Refused, Opens}
 use Rattle.language.specs.Term.{Term, Terms, Arms, var, fun, call, bind, con, cases, num, op, nil, cons, none, arm}
 use Rattle.language.specs.Setting.{Setting}
-use Rattle.language.specs.Kinds.{most_arguments, operands, known, at_term, at_arm, head_of}
+use Rattle.language.specs.Kinds.{most_arguments, operands, known, at_term, at_arm, Head, Refused, Opens, head_of}
 use Rattle.language.specs.Words.{word_end}
 use Rattle.language.specs.Limits.{deepest, most_words}
 use Rattle.language.specs.Dead.{dead}

@@ -3,7 +3,8 @@
 #![tactic(auto)]
 
 ghost use Rattle.std.specs.Prelude.{◌≡◌};
-ghost use Rattle.language.specs.Kinds.{known, row_of, head_of};
+ghost use Rattle.language.specs.Kinds.{known, row_of, head_is, head_of};
+ghost use Rattle.language.specs.Faults.{number_of};
 
 // The most arguments of a function, a call, a constructor or an arm.
 pub const MOST_ARGUMENTS: u8 = 15;
@@ -34,42 +35,80 @@ pub const MOST_WORDS: usize = 4096;
 
 pub const MOST_IMAGE_WORDS: usize = 28672;
 
-// The numbers of the refusals.
-pub const NO_WORDS: u8 = 1;
+// Why words are refused, as the checks in order tell it.
+#[derive(Clone, Copy, PartialEq, Eq)]
+pub enum Fault {
+    NoWords,
+    TooManyWords,
+    NoneLeft,
+    WrongKind,
+    OutOfRange,
+    TooDeep,
+    Unbound,
+    LeftOver,
+    NoRoom,
+    WrongMark,
+    WrongVersion,
+    WrongLength,
+    DeadArm,
+}
 
-pub const TOO_MANY_WORDS: u8 = 2;
+impl Fault {
+    // The number by which a refusal is told.
+    pub fn number(self) -> u8
+        ensures { result ≡ number_of self }
+    {
+        match self {
+            Fault::NoWords => 1,
+            Fault::TooManyWords => 2,
+            Fault::NoneLeft => 3,
+            Fault::WrongKind => 4,
+            Fault::OutOfRange => 5,
+            Fault::TooDeep => 6,
+            Fault::Unbound => 7,
+            Fault::LeftOver => 8,
+            Fault::NoRoom => 9,
+            Fault::WrongMark => 10,
+            Fault::WrongVersion => 11,
+            Fault::WrongLength => 12,
+            Fault::DeadArm => 18,
+        }
+    }
 
-pub const NONE_LEFT: u8 = 3;
+    // The refusal at the place of the word that was tested.
+    pub fn at(self, place: usize) -> Refusal
+        ensures { result ≡ record { fault = self; place = place } }
+    {
+        Refusal { fault: self, place }
+    }
+}
 
-pub const WRONG_KIND: u8 = 4;
+// A refusal, and the place of the word that was tested.
+#[derive(Clone, Copy, PartialEq, Eq)]
+pub struct Refusal {
+    pub fault: Fault,
+    pub place: usize,
+}
 
-pub const OUT_OF_RANGE: u8 = 5;
+// A refusal that tests no word is at this place.
+impl From<Fault> for Refusal {
+    ghost from_gives = { λ fault refusal. refusal ≡ record { fault = fault; place = 0 } };
 
-pub const TOO_DEEP: u8 = 6;
-
-pub const UNBOUND: u8 = 7;
-
-pub const LEFT_OVER: u8 = 8;
-
-pub const NO_ROOM: u8 = 9;
-
-pub const WRONG_MARK: u8 = 10;
-
-pub const WRONG_VERSION: u8 = 11;
-
-pub const WRONG_LENGTH: u8 = 12;
-
-pub const DEAD_ARM: u8 = 18;
+    fn from(fault: Fault) -> Refusal {
+        fault.at(NO_PLACE)
+    }
+}
 
 // The place of a refusal that tests no word.
 pub const NO_PLACE: usize = 0;
 
 // Where a head may stand in a rule.
-const NOWHERE: u8 = 0;
-
-pub const AT_TERM: u8 = 1;
-
-pub const AT_ARM: u8 = 2;
+#[derive(Clone, Copy, PartialEq, Eq)]
+pub enum Stand {
+    Nowhere,
+    AtTerm,
+    AtArm,
+}
 
 // What follows a head word.
 #[derive(Clone, Copy)]
@@ -91,7 +130,7 @@ pub enum Parts {
 pub struct Row {
     pub first: u8,
     pub last: u8,
-    pub stands: u8,
+    pub stands: Stand,
     pub low: u8,
     pub high: u8,
     pub binds: u8,
@@ -103,130 +142,88 @@ const KINDS_COUNT: usize = 12;
 
 const MOST_BYTE: u8 = 255;
 
+// A kind that stands nowhere; and one of every version that stands at a term, with a low byte of 0.
+const NO_ROW: Row = Row {
+    first: 0,
+    last: 0,
+    stands: Stand::Nowhere,
+    low: 0,
+    high: 0,
+    binds: 0,
+    parts: Parts::Nothing,
+};
+
+const AT_TERM: Row = Row {
+    first: OLDEST,
+    last: NEWEST,
+    stands: Stand::AtTerm,
+    ..NO_ROW
+};
+
 const KINDS: [Row; KINDS_COUNT] = [
+    NO_ROW,
     Row {
-        first: 0,
-        last: 0,
-        stands: NOWHERE,
-        low: 0,
-        high: 0,
-        binds: 0,
-        parts: Parts::Nothing,
-    },
-    Row {
-        first: OLDEST,
-        last: NEWEST,
-        stands: AT_TERM,
-        low: 0,
         high: MOST_BYTE,
-        binds: 0,
-        parts: Parts::Nothing,
+        ..AT_TERM
     },
     Row {
-        first: OLDEST,
-        last: NEWEST,
-        stands: AT_TERM,
         low: 1,
         high: MOST_ARGUMENTS,
-        binds: 0,
         parts: Parts::Body,
+        ..AT_TERM
     },
     Row {
-        first: OLDEST,
-        last: NEWEST,
-        stands: AT_TERM,
         low: 1,
         high: MOST_ARGUMENTS,
         binds: 1,
         parts: Parts::Body,
+        ..AT_TERM
     },
     Row {
-        first: OLDEST,
-        last: NEWEST,
-        stands: AT_TERM,
         low: 1,
         high: MOST_ARGUMENTS,
-        binds: 0,
         parts: Parts::FunctionAndArguments,
+        ..AT_TERM
     },
     Row {
-        first: OLDEST,
-        last: NEWEST,
-        stands: AT_TERM,
-        low: 0,
-        high: 0,
         binds: 1,
         parts: Parts::BoundAndBody,
+        ..AT_TERM
     },
     Row {
-        first: OLDEST,
-        last: NEWEST,
-        stands: AT_TERM,
-        low: 0,
         high: MOST_BYTE,
-        binds: 0,
         parts: Parts::CountAndArguments,
+        ..AT_TERM
     },
     Row {
-        first: OLDEST,
-        last: NEWEST,
-        stands: AT_TERM,
         low: 1,
         high: MOST_ARMS,
-        binds: 0,
         parts: Parts::SubjectAndArms,
+        ..AT_TERM
     },
     Row {
-        first: OLDEST,
-        last: NEWEST,
-        stands: AT_ARM,
-        low: 0,
+        stands: Stand::AtArm,
         high: MOST_BYTE,
-        binds: 0,
         parts: Parts::ArityAndBody,
+        ..AT_TERM
     },
     Row {
-        first: OLDEST,
-        last: NEWEST,
-        stands: NOWHERE,
-        low: 0,
+        stands: Stand::Nowhere,
         high: MOST_BYTE,
-        binds: 0,
-        parts: Parts::Nothing,
+        ..AT_TERM
     },
     Row {
         first: NUMBERED,
-        last: NEWEST,
-        stands: AT_TERM,
-        low: 0,
-        high: 0,
-        binds: 0,
         parts: Parts::HighAndLow,
+        ..AT_TERM
     },
     Row {
         first: NUMBERED,
-        last: NEWEST,
-        stands: AT_TERM,
-        low: 0,
         high: LAST_OPERATION,
-        binds: 0,
         parts: Parts::TwoParts,
+        ..AT_TERM
     },
 ];
-
-// What is found at a head word: a refusal's number, or the row of its kind.
-#[derive(Clone, Copy)]
-pub enum Head {
-    Refused(u8),
-    Opens(Row),
-}
-
-// A call's reply: the count that success gives; or a refusal's number, and the place of the word tested.
-#[derive(Clone, Copy)]
-pub enum Answer {
-    Count(usize),
-    Refusal(u8, usize),
-}
 
 // Whether there is such a version of rules.
 pub fn is_known(version: u16) -> bool
@@ -257,27 +254,27 @@ pub fn row_of(w: u16) -> Row
     }
 }
 
-// What the word w is as a head in a version, where one that stands at q is asked for: its kind is tested first, then its low byte.
+// The row of the word w as a head in a version, where one that stands at q is asked for: its kind is tested first, then its low byte.
 #[tactic(auto, using(crate::proofs::Heads::ways))]
-pub fn look(version: u8, q: u8, w: u16) -> Head
-    ensures { result ≡ head_of version q w }
+pub fn look(version: u8, q: Stand, w: u16) -> Result<Row, Fault>
+    ensures { head_is result ≡ head_of version q w }
 {
     let row = row_of(w);
     let low = (w % LOW_BYTE) as u8;
     if row.stands != q {
-        return Head::Refused(WRONG_KIND);
+        return Err(Fault::WrongKind);
     }
     if version < row.first {
-        return Head::Refused(WRONG_KIND);
+        return Err(Fault::WrongKind);
     }
     if row.last < version {
-        return Head::Refused(WRONG_KIND);
+        return Err(Fault::WrongKind);
     }
     if low < row.low {
-        return Head::Refused(OUT_OF_RANGE);
+        return Err(Fault::OutOfRange);
     }
     if row.high < low {
-        return Head::Refused(OUT_OF_RANGE);
+        return Err(Fault::OutOfRange);
     }
-    Head::Opens(row)
+    Ok(row)
 }
