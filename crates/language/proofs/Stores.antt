@@ -13,27 +13,27 @@ use Rattle.language.specs.Calls.{reply_of, told, filled}
 use Rattle.language.specs.declared.Fault.TheVariants.{NoRoom}
 use Rattle.std.specs.Prelude.{Ok, Err}
 
-sets_append : (l : List ℕ) (i : ℕ) (xs ys : List ℕ) → sets l i (xs ++ ys) ≡ sets (sets l i xs) (i + length xs) ys
+sets_append : {A : Type 0} (l : List A) (i : ℕ) (xs ys : List A) → sets l i (xs ++ ys) ≡ sets (sets l i xs) (i + length xs) ys
 sets_append l i [] ys = let e : i ≡ i + 0 = omega arith in ap (λ (n : ℕ). sets l n ys) e
 sets_append l i (x ∷ xs) ys =
     let e : suc i + length xs ≡ i + suc (length xs) = omega arith in
     sets_append (set l i x) (suc i) xs ys ∙ ap (λ (n : ℕ). sets (sets (set l i x) (suc i) xs) n ys) e
 
 -- a run behind a run, and one word more
-pub store_more : (l : List ℕ) (at : ℕ) (xs ys : List ℕ) {o o' : List ℕ} {i : ℕ} → o ≡ sets l at xs → i ≡ at + length xs → o' ≡ sets o i ys
+pub store_more : {A : Type 0} (l : List A) (at : ℕ) (xs ys : List A) {o o' : List A} {i : ℕ} → o ≡ sets l at xs → i ≡ at + length xs → o' ≡ sets o i ys
     → o' ≡ sets l at (xs ++ ys)
 store_more l at xs ys e k f = rw (f, e, k, sets_append l at xs ys)
 
-pub store_last : (l : List ℕ) (at : ℕ) (xs : List ℕ) (v : ℕ) {o : List ℕ} {i : ℕ} → o ≡ sets l at xs → i ≡ at + length xs
+pub store_last : {A : Type 0} (l : List A) (at : ℕ) (xs : List A) (v : A) {o : List A} {i : ℕ} → o ≡ sets l at xs → i ≡ at + length xs
     → set o i v ≡ sets l at (xs ++ (v ∷ []))
 store_last l at xs v e k = store_more l at xs (v ∷ []) e k refl
 
 -- a loop that stores one run after another: what is still to be stored, stored from where the loop is, gives the whole
-pub store_rest : (o goal : List ℕ) (i : ℕ) (zs xs ys : List ℕ) {o' : List ℕ} {j : ℕ} → o' ≡ sets o i xs → sets o i zs ≡ goal → zs ≡ xs ++ ys
+pub store_rest : {A : Type 0} (o goal : List A) (i : ℕ) (zs xs ys : List A) {o' : List A} {j : ℕ} → o' ≡ sets o i xs → sets o i zs ≡ goal → zs ≡ xs ++ ys
     → j ≡ i + length xs → sets o' j ys ≡ goal
 store_rest o goal i zs xs ys e g q k = rw (e, k, ← sets_append o i xs ys, ← q) g
 
-pub at_front : (l ws : List ℕ) → length ws ≤ length l → sets l 0 ws ≡ ws ++ drop (length ws) l
+pub at_front : {A : Type 0} (l ws : List A) → length ws ≤ length l → sets l 0 ws ≡ ws ++ drop (length ws) l
 at_front l ws h = let e : 0 + length ws ≡ length ws = omega arith in sets-eq ws l 0 (omega arith) ∙ ap (λ (n : ℕ). ws ++ drop n l) e
 
 pub filled_short : (ws out : List ℕ) → length out < length ws → told {A = ℕ} (Err (record { fault = NoRoom; place = no_place })) out ≡ filled ws out
