@@ -1,6 +1,6 @@
--- Words written one run after another, and the room that is left for the next; the ends of chains, in the runs in which they are written.
+-- Words written one run after another; the variables that end a chain, one by one; the ends of chains, in the runs in which they are written.
 -- Assumes nothing.
-use Prim.Native.Nat.{ℕ, zero, suc, ◌+◌, ◌-◌}
+use Prim.Native.Nat.{ℕ, zero, suc, ◌+◌, ◌-◌, ◌<◌, ◌≤◌}
 use mathlib.Core.Path.{◌≡◌, refl, sym, ap, subst, ◌∙◌}
 use mathlib.Core.List.{List, [], ◌∷◌, ◌++◌, append-nil}
 use native.Mathlib.Omega.{arith}
@@ -13,7 +13,8 @@ use Rattle.language.specs.Words.{head, words, wordsᵗ}
 use Rattle.language.specs.Image.{to, downto, calling, making, working}
 use Rattle.language.proofs.Forms.{size_downto}
 use Rattle.language.proofs.Stores.{store_more}
-use Rattle.runs.specs.Runs.{Room, Put}
+use Rattle.output.specs.Stored.{Room, Put, HasRoom, Writes}
+use Rattle.output.specs.declared.Output.{Output}
 
 pub put_none : (o : List ℕ) (p : ℕ) → Put [] o p o p
 put_none o p = record { next = omega arith; holds = refl }
@@ -25,13 +26,9 @@ put_then {a} {b} {o} {p = p} f g = record {
   holds = store_more o p a b f.holds f.next g.holds;
 }
 
--- the room for the first of two runs, and what is left for the second when as many words as the first has were written
-pub room_first : (a b : List ℕ) {o : List ℕ} {p : ℕ} → Room o p (length (a ++ b)) → Room o p (length a)
-room_first a b h = record { fits = omega (arith, h.fits, length-append a b) }
-
-pub room_after : (a b : List ℕ) {v o o' : List ℕ} {p i : ℕ} → Room o p (length (a ++ b)) → Put v o p o' i → length v ≡ length a → Room o' i (length b)
-room_after a b {v} {o} {o'} {p} h f e =
-    record { fits = omega (arith, e, h.fits, f.next, length-append a b, ap length f.holds, length-sets o p v) }
+-- the room that is left behind a run
+pub room_left : {a o o' : List ℕ} {p i : ℕ} (n : ℕ) → Put a o p o' i → p + length a + n ≤ length o → Room o' i n
+room_left {a} {o} {p = p} n f h = record { fits = omega (arith, h, f.next, ap length f.holds, length-sets o p a) }
 
 pub put_as : {a b o o' : List ℕ} {p end : ℕ} → a ≡ b → Put b o p o' end → Put a o p o' end
 put_as {o = o} {o'} {p} {end} e f = subst (λ (l : List ℕ). Put l o p o' end) (sym e) f
@@ -47,50 +44,53 @@ unfolding words downto
 downs_more zero z = absurd (z refl)
 downs_more (suc n) z = rw sub-one
 
+-- in the loop that writes them: the variables from k_(i-1) down are left, and whoever writes them has written all
+pub record Downward (n i : ℕ) (o o' : Output ℕ) : Type 0 where
+  pub same : o'.words.ghost_name ≡ o.words.ghost_name
+  pub room : HasRoom o' i
+  pub rest : (w : List ℕ) (e : ℕ) → Put (wordsᵗ images (downto i)) o'.words.now o'.pos w e → Put (wordsᵗ images (downto n)) o.words.now o.pos w e
+
+module _ {n i : ℕ} {o o' : Output ℕ} (d : Downward n i o o') where
+  pub down_next : {o'' : Output ℕ} {w : ℕ} → 0 < i → o''.words.ghost_name ≡ o'.words.ghost_name → w ≡ head 9 (i - 1) → Writes (w ∷ []) o' o''
+      → Downward n (i - 1) o o''
+  down_next {w = w} l g e f = record {
+    same = g ∙ d.same;
+    room = room_left (i - 1) f (omega (arith, l, d.room.fits));
+    rest = λ v k h. d.rest v k (put_as (downs_more i (omega arith)) (put_then (put_as (ap (λ (x : ℕ). x ∷ []) (sym e)) f) h));
+  }
+
+  pub down_end : i ≡ 0 → Writes (wordsᵗ images (downto n)) o o'
+  down_end z = d.rest _ _ (put_as (downs_none i z) (put_none _ _))
+
 calling_words : (n : ℕ) → 0x0201 ∷ words images (calling n)
-    ≡ (0x0201 ∷ (0x0400 + n + 1) ∷ []) ++ ((head 9 n ∷ head 9 (n + 1) ∷ []) ++ wordsᵗ images (downto n))
+    ≡ (0x0201 ∷ (0x0400 + n + 1) ∷ head 9 n ∷ head 9 (n + 1) ∷ []) ++ wordsᵗ images (downto n)
 unfolding words
 calling_words n =
     let e : suc n ≡ n + 1 = omega arith in
     let k : head 4 (suc (size (downto n))) ≡ 0x0400 + n + 1 = omega (arith, size_downto n) in
     cc
 
--- One law for each way out of the writers of runs: what was tested and written on the way, and what then was written in all.
-module _ {o : List ℕ} {p : ℕ} where
-  pub one_more : {a : ℕ} {ws o' o'' : List ℕ} {i end : ℕ} → Put (a ∷ []) o p o' i → Put ws o' i o'' end → Put (a ∷ ws) o p o'' end
-  one_more f g = put_then f g
+handing_words : (n : ℕ) (t : Term) (ws : List ℕ) → words images t ≡ ws ++ wordsᵗ images (downto n)
+    → 0x0201 ∷ words images (to (kvar n) t) ≡ (0x0201 ∷ 0x0401 ∷ head 9 n ∷ []) ++ (ws ++ wordsᵗ images (downto n))
+unfolding words
+handing_words n t ws e = ap (λ (l : List ℕ). 0x0201 ∷ 0x0401 ∷ head 9 n ∷ l) (append-nil (words images t) ∙ e)
 
-  pub two_more : {a b : ℕ} {ws o' o'' : List ℕ} {i end : ℕ} → Put (a ∷ b ∷ []) o p o' i → Put ws o' i o'' end → Put (a ∷ b ∷ ws) o p o'' end
-  two_more f g = put_then f g
+-- One law for each way out of the writers of runs: what was written on the way, and what then was written in all.
+module _ {o : List ℕ} {p : ℕ} {o' : List ℕ} {i : ℕ} where
+  pub calling_put : (n : ℕ) {f g : ℕ} {o'' : List ℕ} {end : ℕ} → f ≡ head 9 n → g ≡ head 9 (n + 1)
+      → Put (0x0201 ∷ (0x0400 + n + 1) ∷ f ∷ g ∷ []) o p o' i → Put (wordsᵗ images (downto n)) o' i o'' end
+      → Put (0x0201 ∷ words images (calling n)) o p o'' end
+  calling_put n e k h r = put_as (calling_words n) (put_then {a = 0x0201 ∷ (0x0400 + n + 1) ∷ head 9 n ∷ head 9 (n + 1) ∷ []} (put_as (simp (e, k)) h) r)
 
-  module _ (n : ℕ) where
-    pub down_none : n ≡ 0 → Put (wordsᵗ images (downto n)) o p o p
-    down_none z = put_as (downs_none n z) (put_none o p)
+  -- the end that hands k_n a term, whose words are ws and then k_(n-1) down to k_0: a constructor's end, and an operation's
+  pub making_put : (t n : ℕ) → Put ((0x0201 ∷ 0x0401 ∷ head 9 n ∷ []) ++ ((head 6 t ∷ n ∷ []) ++ wordsᵗ images (downto n))) o p o' i
+      → Put (0x0201 ∷ words images (making t n)) o p o' i
+  unfolding words
+  making_put t n = put_as (handing_words n (con t (downto n)) (head 6 t ∷ n ∷ []) (ap (λ (m : ℕ). head 6 t ∷ m ∷ wordsᵗ images (downto n)) (size_downto n)))
 
-    pub down_more : {o' o'' : List ℕ} {i end : ℕ} → (n ≡ 0 → ⊥) → Put (head 9 (n - 1) ∷ []) o p o' i → Put (wordsᵗ images (downto (n - 1))) o' i o'' end
-        → Put (wordsᵗ images (downto n)) o p o'' end
-    down_more z f g = put_as (downs_more n z) (put_then f g)
+  pub working_put : (w n : ℕ) → Put ((0x0201 ∷ 0x0401 ∷ head 9 n ∷ []) ++ ((head 11 w ∷ []) ++ wordsᵗ images (downto n))) o p o' i
+      → Put (0x0201 ∷ words images (working w n)) o p o' i
+  unfolding words
+  working_put w n = put_as (handing_words n (op w (downto n)) (head 11 w ∷ []) refl)
 
-    module _ {o' o'' o''' : List ℕ} {i j end : ℕ} where
-      pub calling_put : Put (0x0201 ∷ (0x0400 + n + 1) ∷ []) o p o' i → Put (head 9 n ∷ head 9 (n + 1) ∷ []) o' i o'' j
-          → Put (wordsᵗ images (downto n)) o'' j o''' end → Put (0x0201 ∷ words images (calling n)) o p o''' end
-      calling_put f g h = put_as (calling_words n) (put_then f (put_then g h))
-
-      -- the end that hands k_n a term, whose words are ws and then k_(n-1) down to k_0: a constructor's end, and an operation's
-      handing_put : (t : Term) (ws : List ℕ) → words images t ≡ ws ++ wordsᵗ images (downto n) → Put (0x0201 ∷ 0x0401 ∷ head 9 n ∷ []) o p o' i
-          → Put ws o' i o'' j → Put (wordsᵗ images (downto n)) o'' j o''' end → Put (0x0201 ∷ words images (to (kvar n) t)) o p o''' end
-      unfolding words
-      handing_put t ws e f g h =
-          put_as (ap (λ (l : List ℕ). 0x0201 ∷ 0x0401 ∷ head 9 n ∷ l) (append-nil (words images t) ∙ e)) (put_then f (put_then g h))
-
-      pub making_put : (t : ℕ) → Put (0x0201 ∷ 0x0401 ∷ head 9 n ∷ []) o p o' i → Put (head 6 t ∷ n ∷ []) o' i o'' j
-          → Put (wordsᵗ images (downto n)) o'' j o''' end → Put (0x0201 ∷ words images (making t n)) o p o''' end
-      unfolding words
-      making_put t = handing_put (con t (downto n)) (head 6 t ∷ n ∷ []) (ap (λ (m : ℕ). head 6 t ∷ m ∷ wordsᵗ images (downto n)) (size_downto n))
-
-      pub working_put : (w : ℕ) → Put (0x0201 ∷ 0x0401 ∷ head 9 n ∷ []) o p o' i → Put (head 11 w ∷ []) o' i o'' j
-          → Put (wordsᵗ images (downto n)) o'' j o''' end → Put (0x0201 ∷ words images (working w n)) o p o''' end
-      unfolding words
-      working_put w = handing_put (op w (downto n)) (head 11 w ∷ []) refl
-
-pub ruleset runs = (one_more, two_more, down_none, down_more, calling_put, making_put, working_put, rules)
+pub ruleset runs = (down_next, down_end, calling_put, making_put, working_put, rules)
