@@ -37,7 +37,7 @@ const OPERATION: u16 = 0x0B00;
 
 impl Source {
     // The head of the variable x_i.
-    pub fn head(self) -> u16
+    fn head(self) -> u16
         ensures { result ≡ head 1 self.0 }
     {
         SOURCE + self.0 as u16
@@ -46,11 +46,27 @@ impl Source {
 
 impl Continuation {
     // The head of the continuation variable k_i.
-    pub fn head(self) -> u16
+    fn head(self) -> u16
         ensures { result ≡ head 9 self.0 }
     {
         CONTINUATION + self.0 as u16
     }
+}
+
+pub fn put_source(out: &mut Output<'_, u16>, x: Source)
+    requires { HasRoom out.old 1 }
+    ensures same_reference { out.new.words.ghost_name ≡ out.old.words.ghost_name }
+    ensures put { Writes (head 1 x.0 ∷ []) out.old out.new }
+{
+    out.put(x.head());
+}
+
+pub fn put_continuation(out: &mut Output<'_, u16>, k: Continuation)
+    requires { HasRoom out.old 1 }
+    ensures same_reference { out.new.words.ghost_name ≡ out.old.words.ghost_name }
+    ensures put { Writes (head 9 k.0 ∷ []) out.old out.new }
+{
+    out.put(k.head());
 }
 
 // An added function of a continuation alone, the head of its body, and a continuation variable.
@@ -78,7 +94,7 @@ fn put_down(out: &mut Output<'_, u16>, n: u8)
     ensures put { Writes (wordsᵗ images (downto n)) out.old out.new }
 {
     for i in (0..n).rev() {
-        out.put(Continuation(i).head());
+        put_continuation(out, Continuation(i));
     }
 }
 
