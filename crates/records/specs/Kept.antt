@@ -1,8 +1,13 @@
 -- One record more, if one is left: document 02, Wish 2, "13 (no record left)".
-use Rattle.std.specs.Prelude.{ℕ, ◌+◌, ◌<◌, ◌≡◌, List, length, Option, Some, None}
+use Rattle.std.specs.Prelude.{ℕ, ◌+◌, ◌<◌, ◌≤◌, ◌≡◌, List, length, Option, Some, None}
 use Rattle.output.specs.Stored.{Room, Put}
 use Rattle.records.specs.Links.{record_words}
 use Rattle.records.specs.declared.Records.{Records}
+
+-- of l words those before n are in use: the first free record, at n, is taken, and the next is at n'; or there is none
+abbrev pub Next : (l n n' : ℕ) → Option ℕ → Type 0
+Next l n n' (Some r) = (r ≡ n) × (n + record_words ≤ l) × (n' ≡ n + record_words)
+Next l n n' None = (l < n + record_words) × (n' ≡ n)
 
 -- the words ws were written into the first free record, at n, and the next is at n'; or there is none, and nothing changed
 pub data Kept (ws m m' : List ℕ) (n n' : ℕ) : Option ℕ → Type 0 where

@@ -7,7 +7,7 @@ ghost use Rattle.output.specs.Stored.{Room, Put};
 ghost use Rattle.records.specs.Links.{record_words, low, high, link_at, found_from};
 ghost use Rattle.records.specs.Memory.{a_function, a_number};
 ghost use Rattle.records.specs.Kinds.{word_of, kind_of};
-ghost use Rattle.records.specs.Kept.{HasRecord, Keeps};
+ghost use Rattle.records.specs.Kept.{HasRecord, Next, Keeps};
 
 use output::Output;
 
@@ -30,7 +30,14 @@ const BOUND: usize = 0;
 
 const BEFORE: usize = 2;
 
-// What a value is: the first word of its record says so.
+// The first word of a value's record says what it is.
+const FUNCTION: u32 = 1;
+
+const CONSTRUCTOR: u32 = 2;
+
+const NUMBER: u32 = 3;
+
+// What a value is.
 #[derive(Clone, Copy)]
 pub enum Kind {
     Function,
@@ -44,9 +51,9 @@ impl Kind {
         ensures { result ≡ word_of self }
     {
         match self {
-            Kind::Function => 1,
-            Kind::Constructor => 2,
-            Kind::Number => 3,
+            Kind::Function => FUNCTION,
+            Kind::Constructor => CONSTRUCTOR,
+            Kind::Number => NUMBER,
         }
     }
 
@@ -55,9 +62,9 @@ impl Kind {
         ensures { result ≡ kind_of word }
     {
         match word {
-            1 => Some(Kind::Function),
-            2 => Some(Kind::Constructor),
-            3 => Some(Kind::Number),
+            FUNCTION => Some(Kind::Function),
+            CONSTRUCTOR => Some(Kind::Constructor),
+            NUMBER => Some(Kind::Number),
             _ => None,
         }
     }
@@ -67,7 +74,10 @@ impl Kind {
 pub fn word_at(records: &[u32], base: usize, field: usize) -> u32
     ensures { result ≡ get_or records.now (base + field) 0 }
 {
-    records.get(base.saturating_add(field)).copied().unwrap_or(0)
+    records
+        .get(base.saturating_add(field))
+        .copied()
+        .unwrap_or(0)
 }
 
 // The reference in a word of the record at a place, and in the next.
@@ -104,6 +114,13 @@ pub fn high(link: usize) -> u32
     (link / LINK_END) as u32
 }
 
+// The words of a binding.
+fn binding(value: usize, before: usize) -> [u32; 4]
+    ensures { result ≡ low value ∷ high value ∷ low before ∷ high before ∷ [] }
+{
+    [low(value), high(value), low(before), high(before)]
+}
+
 // Writes words from a place on.
 fn write(records: &mut [u32], at: usize, words: &[u32])
     requires { Room records.old at (length words.now) }
@@ -138,39 +155,52 @@ impl<'a> Records<'a> {
         self.words.len().saturating_sub(self.free)
     }
 
-    // Takes the first free record, which is left, and writes these words into it.
-    #[tactic(auto, using(crate::specs::Kept::kept))]
-    fn put(&mut self, words: &[u32]) -> usize
-        requires { HasRecord self.old × (length words.now ≤ record_words) }
+    // Takes the first free record, which is left.
+    fn take(&mut self) -> usize
+        requires { HasRecord self.old }
         ensures same_reference { self.new.words.ghost_name ≡ self.old.words.ghost_name }
-        ensures kept { Keeps words.now self.old self.new (Some result) }
+        ensures same { self.new.words.now ≡ self.old.words.now }
+        ensures next { Next (length self.old.words.now) self.old.free self.new.free (Some result) }
     {
         let base = self.free;
-        write(self.words, base, words);
         self.free = base + RECORD_WORDS;
         base
     }
 
-    // The same, if a record is left.
-    #[tactic(auto, using(crate::specs::Kept::not_kept))]
+    // The same, if one is left.
+    pub fn try_take(&mut self) -> Option<usize>
+        ensures same_reference { self.new.words.ghost_name ≡ self.old.words.ghost_name }
+        ensures same { self.new.words.now ≡ self.old.words.now }
+        ensures next { Next (length self.old.words.now) self.old.free self.new.free result }
+    {
+        if self.left() < RECORD_WORDS {
+            return None;
+        }
+        Some(self.take())
+    }
+
+    // Writes these words into a record of their own, if one is left.
+    #[tactic(auto, using(crate::specs::Kept::kept, crate::specs::Kept::not_kept))]
     fn keep(&mut self, words: &[u32]) -> Option<usize>
         requires { length words.now ≤ record_words }
         ensures same_reference { self.new.words.ghost_name ≡ self.old.words.ghost_name }
         ensures kept { Keeps words.now self.old self.new result }
     {
-        if self.left() < RECORD_WORDS {
-            return None;
-        }
-        Some(self.put(words))
+        let base = self.try_take()?;
+        write(self.words, base, words);
+        Some(base)
     }
 
     // A binding, where a record is left.
+    #[tactic(auto, using(crate::specs::Kept::kept))]
     pub fn put_binding(&mut self, value: usize, before: usize) -> usize
         requires { HasRecord self.old }
         ensures same_reference { self.new.words.ghost_name ≡ self.old.words.ghost_name }
         ensures kept { Keeps (low value ∷ high value ∷ low before ∷ high before ∷ []) self.old self.new (Some result) }
     {
-        self.put(&[low(value), high(value), low(before), high(before)])
+        let base = self.take();
+        write(self.words, base, &binding(value, before));
+        base
     }
 
     // A binding, if a record is left.
@@ -178,15 +208,18 @@ impl<'a> Records<'a> {
         ensures same_reference { self.new.words.ghost_name ≡ self.old.words.ghost_name }
         ensures kept { Keeps (low value ∷ high value ∷ low before ∷ high before ∷ []) self.old self.new result }
     {
-        self.keep(&[low(value), high(value), low(before), high(before)])
+        self.keep(&binding(value, before))
     }
 
     // A function, which stands in the image at a place, and what is bound there.
-    pub fn keep_function(&mut self, place: u32, continuations: usize, sources: usize) -> Option<usize>
+    pub fn keep_function(
+        &mut self,
+        place: u32,
+        continuations: usize,
+        sources: usize,
+    ) -> Option<usize>
         ensures same_reference { self.new.words.ghost_name ≡ self.old.words.ghost_name }
-        ensures kept {
-            Keeps (a_function ∷ place ∷ low continuations ∷ high continuations ∷ low sources ∷ high sources ∷ []) self.old self.new result
-        }
+        ensures kept { Keeps (a_function ∷ place ∷ low continuations ∷ high continuations ∷ low sources ∷ high sources ∷ []) self.old self.new result }
     {
         self.keep(&[
             Kind::Function.word(),
