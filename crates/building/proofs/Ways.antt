@@ -1,73 +1,21 @@
--- One law for each way out of the functions that build a constructor's record: what a record tells by its kind, the sums over the arguments, and the
--- whole record as one run of words.
+-- One law for each way out of the functions that build a constructor's record: the sums over the arguments, and the whole record as one run of words.
 -- Assumes nothing.
-use Prim.Native.Nat.{ℕ, zero, suc, ◌+◌, ◌*◌, ◌≤◌, ◌<◌, max}
+use Prim.Native.Nat.{ℕ, suc, ◌+◌, ◌*◌, ◌≤◌, ◌<◌, max}
 use mathlib.Core.Path.{◌≡◌, refl, sym, ap, subst, ◌∙◌}
 use mathlib.Core.List.{List, [], ◌∷◌, ◌++◌}
 use native.Mathlib.Omega.{arith}
 use lib.ListN.{length, length-append, get_or, take}
 use lib.Seq.{length-sets, take-suc}
 use Rattle.std.proofs.lemmas.List.{length-take-le}
-use Rattle.std.specs.Prelude.{Option, Some, None}
 use Rattle.language.specs.Kinds.{most_arguments, most_byte}
-use Rattle.language.proofs.Clash.{never}
 use Rattle.language.proofs.Stores.{store_more}
-use Rattle.ticks.specs.Tick.{Closure, Closures, c_fun, c_con, c_num, c_nil, c_cons, sizeᶜ}
+use Rattle.ticks.specs.Tick.{Closure, Closures, c_nil, c_cons, sizeᶜ}
 use Rattle.output.specs.Stored.{Room, Put}
-use Rattle.records.specs.Links.{record_words, low, high, links, link_at, Words}
-use Rattle.records.specs.Grades.{holding, raised, grade, grades, last, lasts, capped}
-use Rattle.records.specs.Kinds.{kind_of}
-use Rattle.records.specs.Memory.{a_constructor, Val, v_fun, v_con, v_num, Vals, v_nil, v_cons}
-use Rattle.records.specs.declared.Kind.{Kind}
-use Rattle.records.specs.declared.Kind.TheVariants.{Function, Constructor, Number}
-use Rattle.records.proofs.Memory.{put_grown, put_words, here, vals_grown, link_of}
+use Rattle.records.specs.Links.{record_words, low, high, links}
+use Rattle.records.specs.Grades.{raised, grade, grades, last, lasts, capped}
+use Rattle.records.specs.Memory.{a_constructor, Val, v_con, Vals, v_nil, v_cons}
+use Rattle.records.proofs.Memory.{put_grown, put_words, here, vals_grown}
 use Rattle.building.specs.Built.{Tells, Summed, Built}
-
--- the kind of a value, which is that of its record
-abbrev kind : Closure → Kind
-kind (c_fun o a b ks xs) = Function
-kind (c_con t cs) = Constructor
-kind (c_num n) = Number
-
--- what a record tells, by its kind
-module _ (m : List ℕ) (v : ℕ) {x : ℕ} (e : x ≡ get_or m (v + 0) 0) where
-  kind_here : {s : List ℕ} {n : ℕ} {c : Closure} → Val s m n v c → kind_of x ≡ Some (kind c)
-  kind_here (v_fun h w l ks xs) = let f = e ∙ w.is 0 (omega arith) in rw f refl
-  kind_here (v_con h b z k w vs) = let f = e ∙ w.is 0 (omega arith) in rw f refl
-  kind_here (v_num h w) = let f = e ∙ w.is 0 (omega arith) in rw f refl
-
-  pub t_number : Some Number ≡ kind_of x → Tells m v 1 2
-  unfolding grade last
-  t_number f = record { graded = λ s n c u. (go u (f ∙ kind_here u)).0; ended = λ s n c u. (go u (f ∙ kind_here u)).1 }
-    where
-      go : {s : List ℕ} {n : ℕ} {c : Closure} → Val s m n v c → Some Number ≡ Some (kind c) → (1 ≡ grade c) × (2 ≡ last c)
-      go (v_fun h w l ks xs) q = never cc
-      go (v_con h b z k w vs) q = never cc
-      go (v_num h w) q = (refl, refl)
-
-  pub t_function : Some Function ≡ kind_of x → Tells m v holding 0
-  unfolding grade last
-  t_function f = record { graded = λ s n c u. (go u (f ∙ kind_here u)).0; ended = λ s n c u. (go u (f ∙ kind_here u)).1 }
-    where
-      go : {s : List ℕ} {n : ℕ} {c : Closure} → Val s m n v c → Some Function ≡ Some (kind c) → (holding ≡ grade c) × (0 ≡ last c)
-      go (v_fun h w l ks xs) q = (refl, refl)
-      go (v_con h b z k w vs) q = never cc
-      go (v_num h w) q = never cc
-
-  pub t_constructor : {y z : ℕ} → Some Constructor ≡ kind_of x → y ≡ get_or m (v + 3) 0 → z ≡ link_at m v 4 → Tells m v y z
-  t_constructor {y} {z} f i j = record { graded = λ s n c u. (go u (f ∙ kind_here u)).0; ended = λ s n c u. (go u (f ∙ kind_here u)).1 }
-    where
-      go : {s : List ℕ} {n : ℕ} {c : Closure} → Val s m n v c → Some Constructor ≡ Some (kind c) → (y ≡ grade c) × (z ≡ last c)
-      go (v_fun h w l ks xs) q = never cc
-      go (v_con {t = t} {cs = cs} h b d k w vs) q = (i ∙ w.is 3 (omega arith), j ∙ link_of w 4 (last (c_con t cs)) (omega arith) refl refl)
-      go (v_num h w) q = never cc
-
-  -- where the word is none of these, no value stands
-  pub t_nothing : {y z : ℕ} → None ≡ kind_of x → Tells m v y z
-  t_nothing f = record { graded = λ s n c u. absurd (none (f ∙ kind_here u)); ended = λ s n c u. absurd (none (f ∙ kind_here u)) }
-    where
-      none : {k : Kind} → None ≡ Some k → ⊥
-      none q = cc
 
 -- one value more, behind others
 record Last (s m : List ℕ) (n : ℕ) (vs : List ℕ) (v : ℕ) (cs : Closures) : Type 0 where
@@ -92,13 +40,6 @@ last_of (x ∷ vs) (v_cons {c = c} u us) =
       ended = λ l. r.ended (capped (l + last c + 1));
     }
 
-pub s_none : (m : List ℕ) → Summed m [] 0 1
-unfolding grades lasts
-s_none m = record { graded = λ s n cs u. (go u).0; ended = λ s n cs u. (go u).1 }
-  where
-    go : {s : List ℕ} {n : ℕ} {cs : Closures} → Vals s m n [] cs → (0 ≡ grades 0 cs) × (1 ≡ lasts 1 cs)
-    go v_nil = (refl, refl)
-
 take_more : (vs : List ℕ) (i : ℕ) → i < length vs → take (i + 1) vs ≡ take i vs ++ (get_or vs i 0 ∷ [])
 take_more vs i h = let e : suc i ≡ i + 1 = omega arith in rw e at (take-suc vs i 0 h)
 
@@ -110,7 +51,7 @@ s_more m vs {i} {g} {l} {x} {y} z h t = subst (λ (us : List ℕ). Summed m us (
 }
 
 -- the references, one after the other
-pub length_links : (vs : List ℕ) → length (links vs) ≡ 2 * length vs
+length_links : (vs : List ℕ) → length (links vs) ≡ 2 * length vs
 unfolding links
 length_links [] = refl
 length_links (v ∷ vs) = omega (arith, length_links vs)
@@ -156,7 +97,6 @@ built vs {m} {m₁} {m₂} {n} {t} {f = f} {l} r b h x p q =
     record {
       grown = put_grown w r z;
       says = λ s cs v. v_con (here n) b (size_vals v) h
-          (subst (λ (a : ℕ). Words m₂ n (a_constructor ∷ t ∷ length vs ∷ raised a ∷ low (lasts 1 cs) ∷ high (lasts 1 cs) ∷ links vs)) (x.graded s n cs v)
-          (subst (λ (a : ℕ). Words m₂ n (a_constructor ∷ t ∷ length vs ∷ raised f ∷ low a ∷ high a ∷ links vs)) (x.ended s n cs v) (put_words w r z)))
+          (rw (x.graded s n cs v, x.ended s n cs v) at (put_words w r z))
           (vals_grown (put_grown w r z) v);
     }

@@ -67,7 +67,7 @@ fn raised(grade: u32) -> u32
 }
 
 // What the record of a value tells of it.
-#[tactic(auto, using(crate::proofs::Ways::t_number, crate::proofs::Ways::t_function, crate::proofs::Ways::t_constructor))]
+#[tactic(auto, using(records::proofs::Memory::link_of), unfolding(records::specs::Grades::grade, records::specs::Grades::last))]
 pub fn told_at(records: &[u32], value: usize) -> Told
     ensures { Tells records.now value result.grade result.last }
 {
@@ -82,7 +82,7 @@ pub fn told_at(records: &[u32], value: usize) -> Told
     }
 }
 
-#[tactic(auto, using(crate::proofs::Ways::s_none, crate::proofs::Ways::s_more))]
+#[tactic(auto, using(crate::proofs::Ways::s_more), unfolding(records::specs::Grades::grades, records::specs::Grades::lasts))]
 fn summed(records: &[u32], values: &[usize]) -> Told
     ensures { Summed records.now values.now result.grade result.last }
 {
