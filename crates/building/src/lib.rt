@@ -82,6 +82,7 @@ pub fn told_at(records: &[u32], value: usize) -> Told
     }
 }
 
+// What the records of some values tell of them together.
 #[tactic(auto, using(crate::proofs::Ways::s_more), unfolding(records::specs::Grades::grades, records::specs::Grades::lasts))]
 fn summed(records: &[u32], values: &[usize]) -> Told
     ensures { Summed records.now values.now result.grade result.last }

@@ -14,23 +14,37 @@ use output::Output;
 // The words of a record.
 pub const RECORD_WORDS: usize = 36;
 
-// A reference has two words, low first: it is the place of a record's first word.
+// A reference is the place of a record's first word, in two words, low first.
+pub const LINK_WORDS: usize = 2;
+
+// One more than the highest word of a record.
 const LINK_END: usize = 0x1_0000_0000;
 
-// The words of a value's record: first its kind; of a constructor, behind its tag, its count, its grade, the place of its last word, and its
-// arguments.
+// The first word of a value's record is its kind.
 pub const KIND: usize = 0;
+
+// The words of a function's record: its place in the image, and what was bound there.
+pub const PLACE: usize = 1;
+
+pub const CONTINUATIONS: usize = 2;
+
+pub const SOURCES: usize = 4;
+
+// The words of a constructor's record, behind its kind and its tag: its count, its grade, the place of its last word, and its arguments.
+pub const COUNT: usize = 2;
 
 pub const GRADE: usize = 3;
 
 pub const LAST: usize = 4;
+
+pub const ARGUMENTS: usize = 6;
 
 // The words of a binding's record: the value, and the binding before it.
 const BOUND: usize = 0;
 
 const BEFORE: usize = 2;
 
-// The first word of a value's record says what it is.
+// The words that stand for the kinds of values.
 const FUNCTION: u32 = 1;
 
 const CONSTRUCTOR: u32 = 2;
@@ -90,13 +104,14 @@ pub fn link_at(records: &[u32], base: usize, field: usize) -> usize
     low + high * LINK_END
 }
 
-// The words of a reference.
+// The first word of a reference.
 pub fn low(link: usize) -> u32
     ensures { result ≡ low link }
 {
     (link % LINK_END) as u32
 }
 
+// And the second.
 pub fn high(link: usize) -> u32
     ensures { result ≡ high link }
 {
@@ -231,6 +246,7 @@ impl<'a> Records<'a> {
         ])
     }
 
+    // A number.
     pub fn keep_number(&mut self, number: u32) -> Option<usize>
         ensures same_reference { self.new.words.ghost_name ≡ self.old.words.ghost_name }
         ensures kept { Keeps (a_number ∷ number ∷ []) self.old self.new result }

@@ -24,7 +24,7 @@ use Rattle.taking.specs.Standing.{Constructed, Counts}
 use Rattle.building.specs.Built.{BuiltOr, is_built, not_built}
 use Rattle.taking.specs.Taking.{Bounds, Taking, TookOne, TookAll, taken, full, TookSays, TookAllSays}
 use Rattle.taking.specs.declared.Bound.{Bound}
-use Rattle.taking.proofs.Inside.{inside, short_place, numbered, constructed, counts}
+use Rattle.taking.proofs.Inside.{inside, short_place, numbered, constructed}
 use Rattle.taking.proofs.Heads.{low_of, told, Atom, is_var, is_kvar, is_con, is_num, is_fun, known}
 
 kept_long : {ws m m' : List ℕ} {n n' : ℕ} {r : Option ℕ} → Kept ws m m' n n' r → length m' ≡ length m
@@ -155,4 +155,4 @@ module _ {s m m₁ vs : List ℕ} {n n₁ at k : ℕ} {b : Bound} {o : Option (U
           rw (y, k, j) (taken {r = n₁} (omega arith) (grown_on g u.grown) (u.says s (values a.ps q.bounds.ks q.bounds.xs) v))
       go q a (taken i g v) (not_built l e k) = full (let y : takes q.t ≡ suc (takesᵗ a.ps) = ap takes a.is in omega (arith, g.long, g.room))
 
-pub ruleset ways = (t_source, t_continuation, t_number, t_function, inside, short_place, numbered, constructed, counts, rules)
+pub ruleset ways = (t_source, t_continuation, t_number, t_function, inside, short_place, numbered, constructed, rules)

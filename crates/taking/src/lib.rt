@@ -35,6 +35,7 @@ enum Atom {
 }
 
 impl Atom {
+    // What a head word says, where it is the head of an atom.
     fn of(word: u16) -> Atom
         ensures { Heads word result }
     {
@@ -73,7 +74,6 @@ fn number_at(image: &[u16], at: usize) -> u32
 }
 
 // How many arguments the constructor at a place has.
-#[tactic(auto, using(crate::proofs::Inside::counts))]
 fn count_at(image: &[u16], at: usize) -> usize
     requires { Constructed image.now at }
     ensures { Counts image.now at result }
@@ -103,14 +103,16 @@ impl<'a> Taker<'a> {
         ensures same_reference { records.new.words.ghost_name ≡ records.old.words.ghost_name }
         ensures took { Took self.now at records.old records.new result }
     {
+        let Bound {
+            continuations,
+            sources,
+        } = self.bound;
         match Atom::of(self.image[at]) {
-            Atom::Source(index) => Some(records.find(self.bound.sources, index)),
-            Atom::Continuation(index) => { Some(records.find(self.bound.continuations, index)) }
+            Atom::Source(index) => Some(records.find(sources, index)),
+            Atom::Continuation(index) => Some(records.find(continuations, index)),
             Atom::Number => records.keep_number(number_at(self.image, at)),
             Atom::Constructor(tag) => self.build(records, at, tag),
-            Atom::Function => {
-                records.keep_function(at as u32, self.bound.continuations, self.bound.sources)
-            }
+            Atom::Function => records.keep_function(at as u32, continuations, sources),
         }
     }
 
