@@ -1,24 +1,15 @@
 -- What the contracts of the builder are made of: what records tell of the values in them, and a constructor's record built.
-use Rattle.std.specs.Prelude.{ℕ, ◌+◌, ◌<◌, max, ◌≡◌, List, length}
+use Rattle.std.specs.Prelude.{ℕ, ◌+◌, ◌<◌, ◌≡◌, List, length, Option, Some, None}
 use Rattle.ticks.specs.Tick.{Closure, Closures, c_con}
 use Rattle.records.specs.Links.{record_words, Grown}
-use Rattle.records.specs.Grades.{grade, grades, last, lasts, capped}
+use Rattle.records.specs.Grades.{grade, grades, last, lasts}
 use Rattle.records.specs.Memory.{Val, Vals}
-use Rattle.records.specs.declared.Taken.{Taken}
-use Rattle.records.specs.declared.Taken.TheVariants.{At, Full}
+use Rattle.records.specs.declared.Records.{Records}
 
--- g is the grade of whatever value the records m hold at v
-pub record Graded (m : List ℕ) (v g : ℕ) : Type 0 where
-  pub says : (s : List ℕ) (n : ℕ) (c : Closure) → Val s m n v c → g ≡ grade c
-
--- l is the place of its last word
-pub record Ended (m : List ℕ) (v l : ℕ) : Type 0 where
-  pub says : (s : List ℕ) (n : ℕ) (c : Closure) → Val s m n v c → l ≡ last c
-
--- with the value at v joined to values whose highest grade is g and whose words end at l, the highest grade is g' and the words end at l'
-pub record Joined (m : List ℕ) (v g l g' l' : ℕ) : Type 0 where
-  pub graded : (s : List ℕ) (n : ℕ) (c : Closure) → Val s m n v c → g' ≡ max g (grade c)
-  pub ended : (s : List ℕ) (n : ℕ) (c : Closure) → Val s m n v c → l' ≡ capped (l + last c + 1)
+-- of whatever value the records m hold at v, g is the grade, and l the place of the last word
+pub record Tells (m : List ℕ) (v g l : ℕ) : Type 0 where
+  pub graded : (s : List ℕ) (n : ℕ) (c : Closure) → Val s m n v c → g ≡ grade c
+  pub ended : (s : List ℕ) (n : ℕ) (c : Closure) → Val s m n v c → l ≡ last c
 
 -- of a constructor with the values at vs for arguments: g is the highest of their grades, and l the place of its last word. Its head and its count
 -- stand at 0 and 1, and then its arguments
@@ -31,7 +22,11 @@ pub record Built (m m' : List ℕ) (n t : ℕ) (vs : List ℕ) : Type 0 where
   pub grown : Grown m m' n (n + record_words)
   pub says : (s : List ℕ) (cs : Closures) → Vals s m n vs cs → Val s m' (n + record_words) n (c_con t cs)
 
--- it was built in the first free record, at n; or there is none
-pub data BuiltOr (m m' : List ℕ) (n t : ℕ) (vs : List ℕ) : Taken → Type 0 where
-  is_built : {n' : ℕ} → n' ≡ n + record_words → Built m m' n t vs → BuiltOr m m' n t vs (At n n')
-  not_built : length m < n + record_words → m' ≡ m → BuiltOr m m' n t vs Full
+-- it was built in the first free record, at n, and the next is at n'; or there is none, and nothing changed
+pub data BuiltOr (m m' : List ℕ) (n n' t : ℕ) (vs : List ℕ) : Option ℕ → Type 0 where
+  is_built : {r : ℕ} → r ≡ n → n' ≡ n + record_words → Built m m' n t vs → BuiltOr m m' n n' t vs (Some r)
+  not_built : length m < n + record_words → m' ≡ m → n' ≡ n → BuiltOr m m' n n' t vs None
+
+-- the same of a run's records
+abbrev pub Builds : Records → Records → ℕ → List ℕ → Option ℕ → Type 0
+Builds o o' t vs r = BuiltOr o.words.now o'.words.now o.free o'.free t vs r

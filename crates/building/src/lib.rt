@@ -2,17 +2,15 @@
 
 #![tactic(auto)]
 
-ghost use Rattle.std.specs.Prelude.{◌+◌, ◌*◌, ◌≤◌, max, ◌≡◌, [], ◌∷◌, length};
+ghost use Rattle.std.specs.Prelude.{◌+◌, ◌*◌, ◌≤◌, max, ◌≡◌, length};
 ghost use Rattle.language.specs.Kinds.{most_arguments, most_byte};
-ghost use Rattle.runs.specs.Runs.{Room, Put};
-ghost use Rattle.records.specs.Links.{record_words, low, high, links};
+ghost use Rattle.output.specs.Stored.{Room, HasRoom, Writes};
+ghost use Rattle.records.specs.Links.{record_words, links};
 ghost use Rattle.records.specs.Grades.{raised, capped};
-ghost use Rattle.building.specs.Built.{Graded, Ended, Joined, Summed, Built, BuiltOr};
+ghost use Rattle.building.specs.Built.{Tells, Summed, Built, Builds};
 
-use records::Taken;
-
-// The word of a value's record that says what it is.
-pub const KIND: usize = 0;
+use output::Output;
+use records::{Kind, Records};
 
 // Values deeper than this are not written: their grades are one higher, and of those that hold a function two.
 pub const DEEPEST: u32 = 64;
@@ -21,166 +19,123 @@ pub const TOO_DEEP: u32 = DEEPEST + 1;
 
 pub const HOLDING: u32 = DEEPEST + 2;
 
-// A number is one deep, and is written in three words, the last at 2. A function is not written.
-const NUMBER_GRADE: u32 = 1;
-
-const FUNCTION_GRADE: u32 = HOLDING;
-
-const NUMBER_LAST: usize = 2;
-
-const FUNCTION_LAST: usize = 0;
-
-// No argument: the grade is the lowest, and the last word that of the count.
-const NO_GRADE: u32 = 0;
-
-const COUNT_LAST: usize = 1;
-
-// The highest place of a word that is told.
-const HIGHEST: usize = 0xFFFF_FFFF_FFFF_FFFF;
-
-// The highest grade of some values, and the place of their last word when they are written behind a constructor's head and count.
+// The grade of a value, and the place of its last word; of some values the highest grade, and the place of their last word when they are
+// written behind a constructor's head and count.
 #[derive(Clone, Copy)]
-struct Sum {
-    grade: u32,
-    last: usize,
+pub struct Told {
+    pub grade: u32,
+    pub last: usize,
 }
 
-fn larger(a: u32, b: u32) -> u32
-    ensures { result ≡ max a b }
-{
-    if a < b {
-        return b;
-    }
-    a
-}
+// A number is one deep, and is written in three words, the last at 2.
+const NUMBER: Told = Told { grade: 1, last: 2 };
 
-// The place of the last word, where so many words and one more follow.
-fn beyond(last: usize, more: usize) -> usize
-    ensures { result ≡ capped (last + more + 1) }
-{
-    if HIGHEST - last <= more {
-        return HIGHEST;
+// A function is not written.
+const FUNCTION: Told = Told {
+    grade: HOLDING,
+    last: 0,
+};
+
+// Of no value the grade is the lowest, and the last word that of the count.
+const NOTHING: Told = Told { grade: 0, last: 1 };
+
+impl Told {
+    // What is told of some values, with one more.
+    fn and(self, value: Told) -> Told
+        ensures grade { result.grade ≡ max self.grade value.grade }
+        ensures last { result.last ≡ capped (self.last + value.last + 1) }
+    {
+        Told {
+            grade: self.grade.max(value.grade),
+            last: self.last.saturating_add(value.last).saturating_add(1),
+        }
     }
-    last + more + 1
 }
 
 // The grade of a constructor, by the highest of its arguments.
+#[tactic(auto, unfolding(records::specs::Grades::raised))]
 fn raised(grade: u32) -> u32
     ensures { result ≡ raised grade }
 {
     if HOLDING <= grade {
-        return HOLDING;
+        HOLDING
+    } else if DEEPEST <= grade {
+        TOO_DEEP
+    } else {
+        grade + 1
     }
-    if DEEPEST <= grade {
-        return TOO_DEEP;
-    }
-    grade + 1
 }
 
-// The grade of the value at a record.
-pub fn grade_at(records: &[u32], value: usize) -> u32
-    ensures { Graded records.now value result }
+// What the record of a value tells of it.
+#[tactic(auto, using(records::proofs::Memory::link_of), unfolding(records::specs::Grades::grade, records::specs::Grades::last))]
+pub fn told_at(records: &[u32], value: usize) -> Told
+    ensures { Tells records.now value result.grade result.last }
 {
-    let kind = records::word_at(records, value, KIND);
-    if kind == records::NUMBER {
-        return NUMBER_GRADE;
-    }
-    if kind == records::FUNCTION {
-        return FUNCTION_GRADE;
-    }
-    records::word_at(records, value, records::GRADE)
-}
-
-// The place of its last word.
-pub fn last_at(records: &[u32], value: usize) -> usize
-    ensures { Ended records.now value result }
-{
-    let kind = records::word_at(records, value, KIND);
-    if kind == records::NUMBER {
-        return NUMBER_LAST;
-    }
-    if kind == records::FUNCTION {
-        return FUNCTION_LAST;
-    }
-    records::link_at(records, value, records::LAST)
-}
-
-// The sum of some values with one more.
-fn joined(records: &[u32], sum: Sum, value: usize) -> Sum
-    ensures { Joined records.now value sum.grade sum.last result.grade result.last }
-{
-    let grade = larger(sum.grade, grade_at(records, value));
-    let last = beyond(sum.last, last_at(records, value));
-    Sum {
-        grade: grade,
-        last: last,
+    match Kind::of(records::word_at(records, value, records::KIND)) {
+        Some(Kind::Number) => NUMBER,
+        Some(Kind::Function) => FUNCTION,
+        Some(Kind::Constructor) => Told {
+            grade: records::word_at(records, value, records::GRADE),
+            last: records::link_at(records, value, records::LAST),
+        },
+        None => NOTHING,
     }
 }
 
-fn summed(records: &[u32], values: &[usize]) -> Sum
+// What the records of some values tell of them together.
+#[tactic(auto, using(crate::proofs::Ways::s_more), unfolding(records::specs::Grades::grades, records::specs::Grades::lasts))]
+fn summed(records: &[u32], values: &[usize]) -> Told
     ensures { Summed records.now values.now result.grade result.last }
 {
-    let mut sum = Sum {
-        grade: NO_GRADE,
-        last: COUNT_LAST,
-    };
-    let mut i = 0;
-    while i < values.len() {
-        sum = joined(records, sum, values[i]);
-        i += 1;
+    let mut sum = NOTHING;
+    for value in values {
+        sum = sum.and(told_at(records, *value));
     }
     sum
 }
 
 // A reference to each argument.
-fn put_arguments(records: &mut [u32], at: usize, values: &[usize]) -> usize
-    requires { Room records.old at (2 * length values.now) }
-    ensures { Put (links values.now) records.old at records.new result }
+#[tactic(auto, using(crate::proofs::Ways::p_room))]
+fn put_arguments(record: &mut Output<'_, u32>, values: &[usize])
+    requires { HasRoom record.old (2 * length values.now) }
+    ensures same_reference { record.new.words.ghost_name ≡ record.old.words.ghost_name }
+    ensures put { Writes (links values.now) record.old record.new }
 {
-    let mut next = at;
-    let mut i = 0;
-    while i < values.len() {
-        next = records::put_link(records, next, values[i]);
-        i += 1;
+    for value in values {
+        record.put_all(&[records::low(*value), records::high(*value)]);
     }
-    next
 }
 
-// What is told of the whole: its count, its grade, the place of its last word.
-fn put_told(records: &mut [u32], at: usize, count: u32, grade: u32, last: usize) -> usize
-    requires { Room records.old at 4 }
-    ensures { Put (count ∷ grade ∷ low last ∷ high last ∷ []) records.old at records.new result }
-{
-    let next = records::put(records, at, count);
-    let then = records::put(records, next, grade);
-    records::put_link(records, then, last)
-}
-
-// The constructor with a tag whose arguments are the values at these records, in the record at `free`, behind all that are in use.
-fn put_constructor(records: &mut [u32], free: usize, tag: u32, values: &[usize])
-    requires { Room records.old free record_words × (tag ≤ most_byte) × (length values.now ≤ most_arguments) }
-    ensures { Built records.old records.new free tag values.now }
+// The constructor with a tag whose arguments are the values at these records, in the record at `base`, behind all that are in use.
+#[tactic(auto, using(crate::proofs::Ways::built))]
+fn put_constructor(records: &mut [u32], base: usize, tag: u32, values: &[usize])
+    requires { Room records.old base record_words × (tag ≤ most_byte) × (length values.now ≤ most_arguments) }
+    ensures { Built records.old records.new base tag values.now }
 {
     let sum = summed(records, values);
-    let next = records::put_head(records, free, records::CONSTRUCTOR, tag);
-    let arguments = put_told(
-        records,
-        next,
+    let mut record = Output {
+        words: records,
+        pos: base,
+    };
+    record.put_all(&[
+        Kind::Constructor.word(),
+        tag,
         values.len() as u32,
         raised(sum.grade),
-        sum.last,
-    );
-    put_arguments(records, arguments, values);
+        records::low(sum.last),
+        records::high(sum.last),
+    ]);
+    put_arguments(&mut record, values);
 }
 
 // The same in the first free record, if one is left.
-pub fn keep_constructor(records: &mut [u32], free: usize, tag: u32, values: &[usize]) -> Taken
+#[tactic(auto, using(crate::specs::Built::is_built, crate::specs::Built::not_built))]
+pub fn keep_constructor(records: &mut Records<'_>, tag: u32, values: &[usize]) -> Option<usize>
     requires { (tag ≤ most_byte) × (length values.now ≤ most_arguments) }
-    ensures { BuiltOr records.old records.new free tag values.now result }
+    ensures same_reference { records.new.words.ghost_name ≡ records.old.words.ghost_name }
+    ensures built { Builds records.old records.new tag values.now result }
 {
-    if records::left(records, free) < records::RECORD_WORDS {
-        return Taken::Full;
-    }
-    put_constructor(records, free, tag, values);
-    Taken::At(free, free + records::RECORD_WORDS)
+    let base = records.try_take()?;
+    put_constructor(records.words, base, tag, values);
+    Some(base)
 }

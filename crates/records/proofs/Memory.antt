@@ -9,7 +9,7 @@ use lib.Seq.{sets, length-sets, get_or-set_same, get_or-set_other}
 use Rattle.language.specs.Term.{Term, fun}
 use Rattle.ticks.specs.Flat.{FlatAtom}
 use Rattle.ticks.specs.Tick.{Closure, Closures, c_fun, c_num, c_cons, sizeᶜ, held}
-use Rattle.runs.specs.Runs.{Room, Put}
+use Rattle.output.specs.Stored.{Room, Put}
 use Rattle.records.specs.Links.{record_words, low, high, links, link_at, Words, Within, found_from, Grown}
 use Rattle.records.specs.Memory.{Laid, a_function, a_number, Val, v_fun, v_con, v_num, Vals, v_nil, v_cons, Env, e_nil, e_cons}
 

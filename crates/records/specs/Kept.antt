@@ -1,11 +1,22 @@
 -- One record more, if one is left: document 02, Wish 2, "13 (no record left)".
-use Rattle.std.specs.Prelude.{ℕ, ◌+◌, ◌<◌, ◌≡◌, List, length}
-use Rattle.runs.specs.Runs.{Room, Put}
+use Rattle.std.specs.Prelude.{ℕ, ◌+◌, ◌<◌, ◌≤◌, ◌≡◌, List, length, Option, Some, None}
+use Rattle.output.specs.Stored.{Room, Put}
 use Rattle.records.specs.Links.{record_words}
-use Rattle.records.specs.declared.Taken.{Taken}
-use Rattle.records.specs.declared.Taken.TheVariants.{At, Full}
+use Rattle.records.specs.declared.Records.{Records}
 
--- the words ws were written into the first free record, at n; or there is none
-pub data Kept (ws m m' : List ℕ) (n : ℕ) : Taken → Type 0 where
-  kept : {e n' : ℕ} → Room m n record_words → Put ws m n m' e → n' ≡ n + record_words → Kept ws m m' n (At n n')
-  not_kept : length m < n + record_words → m' ≡ m → Kept ws m m' n Full
+-- of l words those before n are in use: the first free record, at n, is taken, and the next is at n'; or there is none
+abbrev pub Next : (l n n' : ℕ) → Option ℕ → Type 0
+Next l n n' (Some r) = (r ≡ n) × (n + record_words ≤ l) × (n' ≡ n + record_words)
+Next l n n' None = (l < n + record_words) × (n' ≡ n)
+
+-- the words ws were written into the first free record, at n, and the next is at n'; or there is none, and nothing changed
+pub data Kept (ws m m' : List ℕ) (n n' : ℕ) : Option ℕ → Type 0 where
+  kept : {r e : ℕ} → r ≡ n → Room m n record_words → Put ws m n m' e → n' ≡ n + record_words → Kept ws m m' n n' (Some r)
+  not_kept : length m < n + record_words → m' ≡ m → n' ≡ n → Kept ws m m' n n' None
+
+-- the same of a run's records
+abbrev pub HasRecord : Records → Type 0
+HasRecord o = Room o.words.now o.free record_words
+
+abbrev pub Keeps : List ℕ → Records → Records → Option ℕ → Type 0
+Keeps ws o o' r = Kept ws o.words.now o'.words.now o.free o'.free r

@@ -1,4 +1,5 @@
 pub mod Links
 pub mod Kept
+pub mod Kinds
 pub mod Grades
 pub mod Memory

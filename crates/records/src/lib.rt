@@ -2,24 +2,26 @@
 
 #![tactic(auto)]
 
-ghost use Rattle.std.specs.Prelude.{◌+◌, ◌-◌, ◌<◌, ◌≤◌, ◌≡◌, [], ◌∷◌, length, get_or, replicate};
-ghost use Rattle.runs.specs.Runs.{Room, Put};
+ghost use Rattle.std.specs.Prelude.{◌+◌, ◌-◌, ◌<◌, ◌≤◌, ◌≡◌, [], ◌∷◌, Some, length, get_or, replicate};
+ghost use Rattle.output.specs.Stored.{Room, Put};
 ghost use Rattle.records.specs.Links.{record_words, low, high, link_at, found_from};
-ghost use Rattle.records.specs.Kept.{Kept};
 ghost use Rattle.records.specs.Memory.{a_function, a_number};
+ghost use Rattle.records.specs.Kinds.{word_of, kind_of};
+ghost use Rattle.records.specs.Kept.{HasRecord, Next, Keeps};
+
+use output::Output;
 
 // The words of a record.
 pub const RECORD_WORDS: usize = 36;
 
-// A reference has two words, low first: it is the place of a record's first word.
+// A reference is the place of a record's first word, in two words, low first.
+pub const LINK_WORDS: usize = 2;
+
+// One more than the highest word of a record.
 const LINK_END: usize = 0x1_0000_0000;
 
-// The first word of a value's record says what it is.
-pub const FUNCTION: u32 = 1;
-
-pub const CONSTRUCTOR: u32 = 2;
-
-pub const NUMBER: u32 = 3;
+// The first word of a value's record is its kind.
+pub const KIND: usize = 0;
 
 // The words of a function's record: its place in the image, and what was bound there.
 pub const PLACE: usize = 1;
@@ -37,31 +39,59 @@ pub const LAST: usize = 4;
 
 pub const ARGUMENTS: usize = 6;
 
-// The words of a reference.
-pub const LINK_WORDS: usize = 2;
-
 // The words of a binding's record: the value, and the binding before it.
 const BOUND: usize = 0;
 
 const BEFORE: usize = 2;
 
-fn wide(w: u32) -> usize
-    ensures { (result ≡ w) × (result < 4294967296) }
-{
-    w as usize
+// The words that stand for the kinds of values.
+const FUNCTION: u32 = 1;
+
+const CONSTRUCTOR: u32 = 2;
+
+const NUMBER: u32 = 3;
+
+// What a value is.
+#[derive(Clone, Copy)]
+pub enum Kind {
+    Function,
+    Constructor,
+    Number,
+}
+
+impl Kind {
+    // The word that stands for it.
+    pub fn word(self) -> u32
+        ensures { result ≡ word_of self }
+    {
+        match self {
+            Kind::Function => FUNCTION,
+            Kind::Constructor => CONSTRUCTOR,
+            Kind::Number => NUMBER,
+        }
+    }
+
+    // What a word stands for.
+    pub fn of(word: u32) -> Option<Kind>
+        ensures { result ≡ kind_of word }
+    {
+        match word {
+            FUNCTION => Some(Kind::Function),
+            CONSTRUCTOR => Some(Kind::Constructor),
+            NUMBER => Some(Kind::Number),
+            _ => None,
+        }
+    }
 }
 
 // A word of the record at a place. There are none but zeros past the end.
 pub fn word_at(records: &[u32], base: usize, field: usize) -> u32
     ensures { result ≡ get_or records.now (base + field) 0 }
 {
-    if records.len() <= base {
-        return 0;
-    }
-    if records.len() - base <= field {
-        return 0;
-    }
-    records[base + field]
+    records
+        .get(base.saturating_add(field))
+        .copied()
+        .unwrap_or(0)
 }
 
 // The reference in a word of the record at a place, and in the next.
@@ -69,144 +99,158 @@ pub fn link_at(records: &[u32], base: usize, field: usize) -> usize
     requires { field < record_words }
     ensures { result ≡ link_at records.now base field }
 {
-    let low = wide(word_at(records, base, field));
-    let high = wide(word_at(records, base, field + 1));
+    let low = word_at(records, base, field) as usize;
+    let high = word_at(records, base, field + 1) as usize;
     low + high * LINK_END
 }
 
-// The value that is bound to a variable, where the bindings start at `last`.
-pub fn find(records: &[u32], last: usize, index: usize) -> usize
-    ensures { result ≡ found_from records.now last index }
+// The first word of a reference.
+pub fn low(link: usize) -> u32
+    ensures { result ≡ low link }
 {
-    let mut binding = last;
-    let mut left = index;
-    while 0 < left {
-        binding = link_at(records, binding, BEFORE);
-        left -= 1;
-    }
-    link_at(records, binding, BOUND)
+    (link % LINK_END) as u32
 }
 
-// How many words are left for records.
-pub fn left(records: &[u32], free: usize) -> usize
-    ensures { result ≡ length records.now - free }
+// And the second.
+pub fn high(link: usize) -> u32
+    ensures { result ≡ high link }
 {
-    if records.len() <= free {
-        return 0;
-    }
-    records.len() - free
+    (link / LINK_END) as u32
 }
 
-pub fn put(records: &mut [u32], at: usize, word: u32) -> usize
-    requires { Room records.old at 1 }
-    ensures { Put (word ∷ []) records.old at records.new result }
+// The words of a binding.
+fn binding(value: usize, before: usize) -> [u32; 4]
+    ensures { result ≡ low value ∷ high value ∷ low before ∷ high before ∷ [] }
 {
-    records[at] = word;
-    at + 1
+    [low(value), high(value), low(before), high(before)]
 }
 
-pub fn put_link(records: &mut [u32], at: usize, link: usize) -> usize
-    requires { Room records.old at 2 }
-    ensures { Put (low link ∷ high link ∷ []) records.old at records.new result }
+// Writes words from a place on.
+fn write(records: &mut [u32], at: usize, words: &[u32])
+    requires { Room records.old at (length words.now) }
+    ensures { Put words.now records.old at records.new (at + length words.now) }
 {
-    let next = put(records, at, (link % LINK_END) as u32);
-    put(records, next, (link / LINK_END) as u32)
-}
-
-// Two references, one after the other.
-fn put_links(records: &mut [u32], at: usize, first: usize, second: usize) -> usize
-    requires { Room records.old at 4 }
-    ensures { Put (low first ∷ high first ∷ low second ∷ high second ∷ []) records.old at records.new result }
-{
-    let next = put_link(records, at, first);
-    put_link(records, next, second)
-}
-
-// A record that was taken, and the first free word after it; or none was left.
-#[derive(Clone, Copy)]
-pub enum Taken {
-    At(usize, usize),
-    Full,
-}
-
-// A value's kind, and what tells it from others of its kind.
-pub fn put_head(records: &mut [u32], at: usize, kind: u32, datum: u32) -> usize
-    requires { Room records.old at 2 }
-    ensures { Put (kind ∷ datum ∷ []) records.old at records.new result }
-{
-    let next = put(records, at, kind);
-    put(records, next, datum)
-}
-
-// A binding, where a record is left.
-pub fn put_binding(records: &mut [u32], free: usize, value: usize, before: usize)
-    requires { Room records.old free record_words }
-    ensures { Put (low value ∷ high value ∷ low before ∷ high before ∷ []) records.old free records.new (free + 4) }
-{
-    put_links(records, free, value, before);
-}
-
-// A binding, if a record is left.
-pub fn keep_binding(records: &mut [u32], free: usize, value: usize, before: usize) -> Taken
-    ensures { Kept (low value ∷ high value ∷ low before ∷ high before ∷ []) records.old records.new free result }
-{
-    if left(records, free) < RECORD_WORDS {
-        return Taken::Full;
-    }
-    put_binding(records, free, value, before);
-    Taken::At(free, free + RECORD_WORDS)
-}
-
-// A function, which stands in the image at a place, and what is bound there.
-fn put_function(
-    records: &mut [u32],
-    at: usize,
-    place: u32,
-    continuations: usize,
-    sources: usize,
-) -> usize
-    requires { Room records.old at 6 }
-    ensures { Put (a_function ∷ place ∷ low continuations ∷ high continuations ∷ low sources ∷ high sources ∷ []) records.old at records.new result }
-{
-    let next = put_head(records, at, FUNCTION, place);
-    put_links(records, next, continuations, sources)
-}
-
-// The same, if a record is left.
-pub fn keep_function(
-    records: &mut [u32],
-    free: usize,
-    place: u32,
-    continuations: usize,
-    sources: usize,
-) -> Taken
-    ensures { Kept (a_function ∷ place ∷ low continuations ∷ high continuations ∷ low sources ∷ high sources ∷ []) records.old records.new free result }
-{
-    if left(records, free) < RECORD_WORDS {
-        return Taken::Full;
-    }
-    put_function(records, free, place, continuations, sources);
-    Taken::At(free, free + RECORD_WORDS)
-}
-
-// A number, if a record is left.
-pub fn keep_number(records: &mut [u32], free: usize, number: u32) -> Taken
-    ensures { Kept (a_number ∷ number ∷ []) records.old records.new free result }
-{
-    if left(records, free) < RECORD_WORDS {
-        return Taken::Full;
-    }
-    put_head(records, free, NUMBER, number);
-    Taken::At(free, free + RECORD_WORDS)
+    let mut record = Output {
+        words: records,
+        pos: at,
+    };
+    record.put_all(words);
 }
 
 // "The record buffer is all zero after every reply".
 pub fn clear(records: &mut [u32])
     ensures { records.new ≡ replicate (length records.old) 0 }
 {
-    let mut i = 0;
-    while i < records.len() {
-        records[i] = 0;
-        i += 1;
+    records.fill(0);
+}
+
+// The records of a run, and the first word that is free: those before it are in use, and a record is written behind them.
+#[derive(Drop)]
+pub struct Records<'a> {
+    pub words: &'a mut [u32],
+    pub free: usize,
+}
+
+impl<'a> Records<'a> {
+    // The value that is bound to a variable, where the bindings start at `last`.
+    pub fn find(&self, last: usize, index: usize) -> usize
+        ensures { result ≡ found_from self.now.words.now last index }
+    {
+        let mut binding = last;
+        for _ in 0..index {
+            binding = link_at(self.words, binding, BEFORE);
+        }
+        link_at(self.words, binding, BOUND)
+    }
+
+    // How many words are left for records.
+    pub fn left(&self) -> usize
+        ensures { result ≡ length self.now.words.now - self.now.free }
+    {
+        self.words.len().saturating_sub(self.free)
+    }
+
+    // Takes the first free record, which is left.
+    fn take(&mut self) -> usize
+        requires { HasRecord self.old }
+        ensures same_reference { self.new.words.ghost_name ≡ self.old.words.ghost_name }
+        ensures same { self.new.words.now ≡ self.old.words.now }
+        ensures next { Next (length self.old.words.now) self.old.free self.new.free (Some result) }
+    {
+        let base = self.free;
+        self.free = base + RECORD_WORDS;
+        base
+    }
+
+    // The same, if one is left.
+    pub fn try_take(&mut self) -> Option<usize>
+        ensures same_reference { self.new.words.ghost_name ≡ self.old.words.ghost_name }
+        ensures same { self.new.words.now ≡ self.old.words.now }
+        ensures next { Next (length self.old.words.now) self.old.free self.new.free result }
+    {
+        if self.left() < RECORD_WORDS {
+            return None;
+        }
+        Some(self.take())
+    }
+
+    // Writes these words into a record of their own, if one is left.
+    #[tactic(auto, using(crate::specs::Kept::kept, crate::specs::Kept::not_kept))]
+    fn keep(&mut self, words: &[u32]) -> Option<usize>
+        requires { length words.now ≤ record_words }
+        ensures same_reference { self.new.words.ghost_name ≡ self.old.words.ghost_name }
+        ensures kept { Keeps words.now self.old self.new result }
+    {
+        let base = self.try_take()?;
+        write(self.words, base, words);
+        Some(base)
+    }
+
+    // A binding, where a record is left.
+    #[tactic(auto, using(crate::specs::Kept::kept))]
+    pub fn put_binding(&mut self, value: usize, before: usize) -> usize
+        requires { HasRecord self.old }
+        ensures same_reference { self.new.words.ghost_name ≡ self.old.words.ghost_name }
+        ensures kept { Keeps (low value ∷ high value ∷ low before ∷ high before ∷ []) self.old self.new (Some result) }
+    {
+        let base = self.take();
+        write(self.words, base, &binding(value, before));
+        base
+    }
+
+    // A binding, if a record is left.
+    pub fn keep_binding(&mut self, value: usize, before: usize) -> Option<usize>
+        ensures same_reference { self.new.words.ghost_name ≡ self.old.words.ghost_name }
+        ensures kept { Keeps (low value ∷ high value ∷ low before ∷ high before ∷ []) self.old self.new result }
+    {
+        self.keep(&binding(value, before))
+    }
+
+    // A function, which stands in the image at a place, and what is bound there.
+    pub fn keep_function(
+        &mut self,
+        place: u32,
+        continuations: usize,
+        sources: usize,
+    ) -> Option<usize>
+        ensures same_reference { self.new.words.ghost_name ≡ self.old.words.ghost_name }
+        ensures kept { Keeps (a_function ∷ place ∷ low continuations ∷ high continuations ∷ low sources ∷ high sources ∷ []) self.old self.new result }
+    {
+        self.keep(&[
+            Kind::Function.word(),
+            place,
+            low(continuations),
+            high(continuations),
+            low(sources),
+            high(sources),
+        ])
+    }
+
+    // A number.
+    pub fn keep_number(&mut self, number: u32) -> Option<usize>
+        ensures same_reference { self.new.words.ghost_name ≡ self.old.words.ghost_name }
+        ensures kept { Keeps (a_number ∷ number ∷ []) self.old self.new result }
+    {
+        self.keep(&[Kind::Number.word(), number])
     }
 }

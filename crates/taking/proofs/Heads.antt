@@ -1,7 +1,7 @@
 -- What the head word of an image's term tells: its kind and its low byte.
 -- Assumes nothing.
 use Prim.Native.Nat.{ℕ, ◌+◌, ◌/◌, ◌%◌, ◌≤◌}
-use mathlib.Core.Path.{◌≡◌, refl, sym, ap, subst, ◌∙◌}
+use mathlib.Core.Path.{◌≡◌, refl, sym, subst, ◌∙◌}
 use mathlib.Core.List.{List, ◌∷◌}
 use native.Mathlib.Omega.{arith}
 use lib.ListN.{get_or}
@@ -67,8 +67,6 @@ atom (f_fun f) (r_fun l h k r) = is_fun refl l
 atom (f_con f) r = is_con f
 atom f_num r = is_num
 
--- the atom whose head word w stands there
-pub known : {s : List ℕ} {t : Term} {at to c d w k : ℕ} → Laid FlatAtom s at to c d t → w ≡ get_or s at 0 → w / 256 ≡ k → Atom k t
-known {t = t} l e q =
-    let x : kind_of t ≡ _ = sym (told l.ranged l.held).0 ∙ ap (λ (i : ℕ). i / 256) (sym e) ∙ q in
-    subst (λ (i : ℕ). Atom i t) x (atom l.flat l.ranged)
+-- the atom whose head stands there
+pub known : {s : List ℕ} {t : Term} {at to c d k : ℕ} → Laid FlatAtom s at to c d t → get_or s at 0 / 256 ≡ k → Atom k t
+known {t = t} l q = subst (λ (i : ℕ). Atom i t) (sym (told l.ranged l.held).0 ∙ q) (atom l.flat l.ranged)

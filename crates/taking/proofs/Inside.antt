@@ -1,7 +1,7 @@
 -- What stands in an image is inside it: the bounds of those who read it, and what stands behind a head.
 -- Assumes nothing.
 use Prim.Native.Nat.{ℕ, ◌+◌, ◌-◌, ◌/◌, ◌≤◌, ◌<◌}
-use mathlib.Core.Path.{◌≡◌, refl, sym, ap, ◌∙◌}
+use mathlib.Core.Path.{◌≡◌, sym, ◌∙◌}
 use mathlib.Core.List.{List}
 use native.Mathlib.Omega.{arith}
 use lib.ListN.{length, get_or}
@@ -61,8 +61,8 @@ module _ {s : List ℕ} {at : ℕ} (k : Stands s at) where
   pub short_place : at < link_end
   short_place = omega (arith, inside, k.short)
 
-  pub numbered : {w : ℕ} → w ≡ get_or s at 0 → w / 256 ≡ 10 → at + 2 < length s
-  numbered {w} e q = numbered_at k.ranged k.held (sym (told k.ranged k.held).0 ∙ ap (λ (i : ℕ). i / 256) (sym e) ∙ q)
+  pub numbered : get_or s at 0 / 256 ≡ 10 → at + 2 < length s
+  numbered q = numbered_at k.ranged k.held (sym (told k.ranged k.held).0 ∙ q)
 
   module _ (q : get_or s at 0 / 256 ≡ 6) where
     counted : Counted s at
@@ -71,13 +71,13 @@ module _ {s : List ℕ} {at : ℕ} (k : Stands s at) where
     pub constructed : Constructed s at
     constructed = record { stands = k; kind = q; inside = omega (arith, counted.there) }
 
-pub counts : {s : List ℕ} {at : ℕ} → Constructed s at → Counts s at (get_or s (at + 1) 0)
-counts k =
+pub counts : {s : List ℕ} {at n : ℕ} → Constructed s at → n ≡ get_or s (at + 1) 0 → Counts s at n
+counts k e =
     let c = counted k.stands k.kind in
     record {
-      is = refl;
-      few = omega (arith, c.few, c.many);
-      behind = record { terms = c.terms; to = c.to; held = c.held; ranged = c.ranged; many = c.many; short = k.stands.short };
+      is = e;
+      few = omega (arith, e, c.few, c.many);
+      behind = record { terms = c.terms; to = c.to; held = c.held; ranged = c.ranged; many = c.many ∙ sym e; short = k.stands.short };
     }
 
 -- of some terms the first stands first, and the others behind it

@@ -56,8 +56,8 @@ module _ {s : List ℕ} {at : ℕ} (k : Stands s at) where
     head_there z = record { inside = let (a, b) = fits (next (g.each k.term k.to k.held k.ranged) z) in omega arith }
 
     -- behind a head it goes on with the pieces that the head opens
-    pub goes_on : {o : Opening} → 0 < i → OpensAt o s to → Going s at (to + o.words) (i - 1 + o.pieces)
-    goes_on {o} z h = going λ t e x r. subst (λ (u : Opening). Skip s e (to + u.words) (i - 1 + u.pieces)) (sym h.is) (next (g.each t e x r) z)
+    pub goes_on : {o : Opening} {n : ℕ} → 0 < i → OpensAt o s to → n ≡ o.pieces → Going s at (to + o.words) (i - 1 + n)
+    goes_on {o} z h e = rw e (going λ t e x r. subst (λ (u : Opening). Skip s e (to + u.words) (i - 1 + u.pieces)) (sym h.is) (next (g.each t e x r) z))
 
     -- where none is left it has come to the end
     pub comes_out : i ≤ 0 → Ends s at to

@@ -1,10 +1,12 @@
 -- One law for each way out of taking an atom: a variable is found, a function, a number or a constructor is put into a record.
 -- Assumes nothing.
-use Prim.Native.Nat.{ℕ, suc, ◌+◌, ◌*◌, ◌/◌, ◌%◌}
+use Prim.Native.Nat.{ℕ, suc, ◌+◌, ◌*◌, ◌/◌, ◌%◌, ◌≤◌}
 use mathlib.Core.Path.{◌≡◌, refl, sym, ap, ◌∙◌}
 use mathlib.Core.List.{List, [], ◌∷◌}
 use native.Mathlib.Omega.{arith}
 use lib.ListN.{length, get_or, take}
+use Rattle.std.proofs.lemmas.List.{length-take-le}
+use Rattle.std.specs.Prelude.{Option, Some, None}
 use lib.Seq.{length-sets}
 use borrow.Author.Rules.{rules}
 use Rattle.language.specs.Term.{images, Term, Terms, con, size}
@@ -14,90 +16,85 @@ use Rattle.language.specs.Limits.{Ranged, r_con}
 use Rattle.language.proofs.Places.{first_word, next_words}
 use Rattle.ticks.specs.Flat.{FlatAtom}
 use Rattle.ticks.specs.Tick.{Closures, sizeᶜ, value, values, takes, takesᵗ}
-use Rattle.records.specs.Links.{record_words, low, high, found_from}
+use Rattle.records.specs.Links.{low, high, found_from}
 use Rattle.records.specs.Kept.{Kept, kept, not_kept}
 use Rattle.records.specs.Memory.{Laid, Laidᵗ, a_function, a_number}
-use Rattle.records.specs.declared.Taken.{Taken}
-use Rattle.records.specs.declared.Taken.TheVariants.{At, Full}
 use Rattle.records.proofs.Memory.{not_grown, grown_on, put_grown, closes, numbers, finds}
 use Rattle.taking.specs.Standing.{Constructed, Counts}
 use Rattle.building.specs.Built.{BuiltOr, is_built, not_built}
 use Rattle.taking.specs.Taking.{Bounds, Taking, TookOne, TookAll, taken, full, TookSays, TookAllSays}
 use Rattle.taking.specs.declared.Bound.{Bound}
-use Rattle.taking.specs.declared.Took.{Took}
-use Rattle.taking.specs.declared.Took.TheVariants as took
-use Rattle.taking.proofs.Inside.{inside, short_place, numbered, constructed, counts}
+use Rattle.taking.proofs.Inside.{inside, short_place, numbered, constructed}
 use Rattle.taking.proofs.Heads.{low_of, told, Atom, is_var, is_kvar, is_con, is_num, is_fun, known}
 
-kept_long : {ws m m' : List ℕ} {n : ℕ} {r : Taken} → Kept ws m m' n r → length m' ≡ length m
-kept_long {ws} {m} (kept h p q) = ap length p.holds ∙ length-sets m _ ws
-kept_long (not_kept h e) = ap length e
+kept_long : {ws m m' : List ℕ} {n n' : ℕ} {r : Option ℕ} → Kept ws m m' n n' r → length m' ≡ length m
+kept_long {ws} {m} (kept i h p q) = ap length p.holds ∙ length-sets m _ ws
+kept_long (not_kept h e i) = ap length e
 
 -- what is to be shown of the term that stands there
-abbrev One : {s m : List ℕ} {n : ℕ} {b : Bound} → List ℕ → Taken → Bounds s m n b → Term → Type 0
-One {s} {m} {n} m' r B t = TookOne s m m' n (takes t) (value t B.ks B.xs) r
+abbrev One : {s m : List ℕ} {n : ℕ} {b : Bound} → List ℕ → ℕ → Option ℕ → Bounds s m n b → Term → Type 0
+One {s} {m} {n} m' n' r B t = TookOne s m m' n n' (takes t) (value t B.ks B.xs) r
 
 abbrev Here : {s m : List ℕ} {n : ℕ} {b : Bound} → Bounds s m n b → ℕ → ℕ → Term → Type 0
 Here {s} B at to t = Laid FlatAtom s at to (sizeᶜ B.ks) (sizeᶜ B.xs) t
 
-built_long : {m m' vs : List ℕ} {n t : ℕ} {r : Taken} → BuiltOr m m' n t vs r → length m' ≡ length m
-built_long (is_built e u) = u.grown.long
-built_long (not_built h e) = ap length e
+built_long : {m m' vs : List ℕ} {n n' t : ℕ} {r : Option ℕ} → BuiltOr m m' n n' t vs r → length m' ≡ length m
+built_long (is_built i e u) = u.grown.long
+built_long (not_built h e i) = ap length e
 
 module _ {s m : List ℕ} {n at : ℕ} {b : Bound} where
   -- a variable takes no record
-  pub t_source : {w r : ℕ} → w ≡ get_or s at 0 → w / 256 ≡ 1 → r ≡ found_from m b.sources (w % 256) → TookSays s m m n at b (At r n)
+  pub t_source : {j r : ℕ} → (get_or s at 0 / 256 ≡ 1) × (j ≡ get_or s at 0 % 256) → r ≡ found_from m b.sources j → TookSays s m m n n at b (Some r)
   unfolding takes value low_of
-  t_source {w} {r} e k f = record { long = refl; says = λ q. go q.bounds (known q.laid e k) q.laid q.laid.scoped }
+  t_source {j} {r} k f = record { long = refl; says = λ q. go q.bounds (known q.laid k.0) q.laid q.laid.scoped }
     where
-      go : (B : Bounds s m n b) {t : Term} {to : ℕ} → Atom 1 t → Here B at to t → Scoped images (sizeᶜ B.ks) (sizeᶜ B.xs) t → One m (At r n) B t
+      go : (B : Bounds s m n b) {t : Term} {to : ℕ} → Atom 1 t → Here B at to t → Scoped images (sizeᶜ B.ks) (sizeᶜ B.xs) t → One m n (Some r) B t
       go B (is_var {i}) l (s_var h) =
-          let y : w % 256 ≡ i = omega (arith, e, told l.ranged l.held) in
-          taken {r = r} {n' = n} (omega arith) (not_grown B.room) (rw (f, y) (finds i B.sources h))
+          let y : j ≡ i = omega (arith, k.1, told l.ranged l.held) in
+          taken {r = r} (omega arith) (not_grown B.room) (rw (f, y) (finds i B.sources h))
       go B (is_fun z y) l c = absurd (omega arith)
 
-  pub t_continuation : {w r : ℕ} → w ≡ get_or s at 0 → w / 256 ≡ 9 → r ≡ found_from m b.continuations (w % 256) → TookSays s m m n at b (At r n)
+  pub t_continuation : {j r : ℕ} → (get_or s at 0 / 256 ≡ 9) × (j ≡ get_or s at 0 % 256) → r ≡ found_from m b.continuations j → TookSays s m m n n at b (Some r)
   unfolding takes value low_of
-  t_continuation {w} {r} e k f = record { long = refl; says = λ q. go q.bounds (known q.laid e k) q.laid q.laid.scoped }
+  t_continuation {j} {r} k f = record { long = refl; says = λ q. go q.bounds (known q.laid k.0) q.laid q.laid.scoped }
     where
-      go : (B : Bounds s m n b) {t : Term} {to : ℕ} → Atom 9 t → Here B at to t → Scoped images (sizeᶜ B.ks) (sizeᶜ B.xs) t → One m (At r n) B t
+      go : (B : Bounds s m n b) {t : Term} {to : ℕ} → Atom 9 t → Here B at to t → Scoped images (sizeᶜ B.ks) (sizeᶜ B.xs) t → One m n (Some r) B t
       go B (is_kvar {i}) l (s_kvar x h) =
-          let y : w % 256 ≡ i = omega (arith, e, told l.ranged l.held) in
-          taken {r = r} {n' = n} (omega arith) (not_grown B.room) (rw (f, y) (finds i B.continuations h))
+          let y : j ≡ i = omega (arith, k.1, told l.ranged l.held) in
+          taken {r = r} (omega arith) (not_grown B.room) (rw (f, y) (finds i B.continuations h))
       go B (is_fun z y) l c = absurd (omega arith)
 
   -- a number takes one, and so does a function
-  pub t_number : {w x : ℕ} {m' : List ℕ} {r : Taken} → w ≡ get_or s at 0 → w / 256 ≡ 10 → x ≡ get_or s (at + 1) 0 * word_end + get_or s (at + 2) 0
-      → Kept (a_number ∷ x ∷ []) m m' n r → TookSays s m m' n at b r
+  pub t_number : {x n' : ℕ} {m' : List ℕ} {r : Option ℕ} → get_or s at 0 / 256 ≡ 10 → x ≡ get_or s (at + 1) 0 * word_end + get_or s (at + 2) 0
+      → Kept (a_number ∷ x ∷ []) m m' n n' r → TookSays s m m' n n' at b r
   unfolding takes value words
-  t_number {w} {x} {m'} {r} e k f g = record { long = kept_long g; says = λ q. go q.bounds (known q.laid e k) q.laid g }
+  t_number {x} {n'} {m'} {r} k f g = record { long = kept_long g; says = λ q. go q.bounds (known q.laid k) q.laid g }
     where
-      go : (B : Bounds s m n b) {t : Term} {to : ℕ} {r : Taken} → Atom 10 t → Here B at to t → Kept (a_number ∷ x ∷ []) m m' n r → One m' r B t
-      go B (is_num {n = i}) l (kept {n' = n'} h p q) =
+      go : (B : Bounds s m n b) {t : Term} {to : ℕ} {r : Option ℕ} → Atom 10 t → Here B at to t → Kept (a_number ∷ x ∷ []) m m' n n' r → One m' n' r B t
+      go B (is_num {n = i}) l (kept {r} j h p q) =
           let k₁ = next_words l.held in
           let z : at + 1 + 1 ≡ at + 2 = omega arith in
           let v : get_or s (at + 2) 0 ≡ i % word_end = rw z at (first_word (next_words k₁)) in
           let y : x ≡ i = omega (arith, f, v, first_word k₁) in
-          taken {r = n} {n' = n'} (omega arith) (rw q (put_grown p h (omega arith))) (rw (q, ← y) (numbers h p))
-      go B is_num l (not_kept h e) = full (omega arith)
+          rw (j, q) (taken {r = n} (omega arith) (put_grown p h (omega arith)) (rw (← y) (numbers h p)))
+      go B is_num l (not_kept h e i) = full (omega arith)
       go B (is_fun z y) l c = absurd (omega arith)
 
-  pub t_function : {m' : List ℕ} {r : Taken} → (get_or s at 0 / 256 ≡ 1 → ⊥) → (get_or s at 0 / 256 ≡ 9 → ⊥) → (get_or s at 0 / 256 ≡ 10 → ⊥)
-      → (get_or s at 0 / 256 ≡ 6 → ⊥)
-      → Kept (a_function ∷ at ∷ low b.continuations ∷ high b.continuations ∷ low b.sources ∷ high b.sources ∷ []) m m' n r
-      → TookSays s m m' n at b r
+  pub t_function : {m' : List ℕ} {n' : ℕ} {r : Option ℕ} → (get_or s at 0 / 256 ≡ 1 → ⊥) × (get_or s at 0 / 256 ≡ 9 → ⊥) × (get_or s at 0 / 256 ≡ 6 → ⊥) × (get_or s at 0 / 256 ≡ 10 → ⊥)
+      → Kept (a_function ∷ at ∷ low b.continuations ∷ high b.continuations ∷ low b.sources ∷ high b.sources ∷ []) m m' n n' r
+      → TookSays s m m' n n' at b r
   unfolding takes value
-  t_function {m'} {r} k₁ k₂ k₃ k₄ g = record { long = kept_long g; says = λ q. go q.bounds (known q.laid refl refl) refl q.laid g }
+  t_function {m'} {n'} {r} k g = record { long = kept_long g; says = λ q. go q.bounds (known q.laid refl) refl q.laid g }
     where
-      go : (B : Bounds s m n b) {t : Term} {to : ℕ} {r : Taken} {k : ℕ} → Atom k t → k ≡ get_or s at 0 / 256 → Here B at to t
-          → Kept (a_function ∷ at ∷ low b.continuations ∷ high b.continuations ∷ low b.sources ∷ high b.sources ∷ []) m m' n r → One m' r B t
-      go B is_var x l c = absurd (k₁ (sym x))
-      go B is_kvar x l c = absurd (k₂ (sym x))
-      go B is_num x l c = absurd (k₃ (sym x))
-      go B (is_con f) x l c = absurd (k₄ (sym x))
-      go B (is_fun z y) x l (kept {n' = n'} h p q) =
-          taken {r = n} {n' = n'} (omega arith) (rw q (put_grown p h (omega arith))) (rw q (closes h p l B.continuations B.sources))
-      go B (is_fun z y) x l (not_kept h e) = full (omega arith)
+      go : (B : Bounds s m n b) {t : Term} {to : ℕ} {r : Option ℕ} {j : ℕ} → Atom j t → j ≡ get_or s at 0 / 256 → Here B at to t
+          → Kept (a_function ∷ at ∷ low b.continuations ∷ high b.continuations ∷ low b.sources ∷ high b.sources ∷ []) m m' n n' r → One m' n' r B t
+      go B is_var x l c = absurd (k.0 (sym x))
+      go B is_kvar x l c = absurd (k.1 (sym x))
+      go B is_num x l c = absurd (k.3 (sym x))
+      go B (is_con f) x l c = absurd (k.2 (sym x))
+      go B (is_fun z y) x l (kept i h p q) =
+          rw (i, q) (taken {r = n} (omega arith) (put_grown p h (omega arith)) (closes h p l B.continuations B.sources))
+      go B (is_fun z y) x l (not_kept h e i) = full (omega arith)
 
 -- the arguments of the constructor that stands there
 record Arguments (s : List ℕ) (at c d : ℕ) (t : Term) : Type 0 where
@@ -122,39 +119,40 @@ arguments {at = at} {to = to} (is_con {t} {ps} f) l (r_con h g rs) (s_con c) =
 arguments (is_fun z y) l r c = absurd (omega arith)
 
 -- what was taken of them, where their records are vs
-record Inner (s m m₁ vs : List ℕ) (n at : ℕ) (b : Bound) (q : Taking s m n at b) (o : Took) : Type 0 where
+record Inner (s m m₁ vs : List ℕ) (n n₁ at : ℕ) (b : Bound) (q : Taking s m n at b) (o : Option (Unit {0})) : Type 0 where
   pub args : Arguments s at (sizeᶜ q.bounds.ks) (sizeᶜ q.bounds.xs) q.t
-  pub all : TookAll s m m₁ n (takesᵗ args.ps) vs (values args.ps q.bounds.ks q.bounds.xs) o
+  pub all : TookAll s m m₁ n n₁ (takesᵗ args.ps) vs (values args.ps q.bounds.ks q.bounds.xs) o
 
 -- a constructor takes one record, behind those of its arguments
-module _ {s m m₁ vs vs' : List ℕ} {n at k : ℕ} {b : Bound} {o : Took} (e : Constructed s at) (j : Counts s at k)
-    (h : TookAllSays s m m₁ vs vs' n (at + 2) k b o) where
-  inner : (q : Taking s m n at b) {w : Took} → o ≡ w → Inner s m m₁ (take k vs') n at b q w
+module _ {s m m₁ vs : List ℕ} {n n₁ at k : ℕ} {b : Bound} {o : Option (Unit {0})} (us : List ℕ) (e : Constructed s at) (j : Counts s at k) (l : k ≤ length us)
+    (h : TookAllSays s m m₁ (take k us) vs n n₁ (at + 2) b o) where
+  inner : (q : Taking s m n at b) {w : Option (Unit {0})} → o ≡ w → Inner s m m₁ vs n n₁ at b q w
   inner q z =
-      let a = arguments (known q.laid refl e.kind) q.laid q.laid.ranged q.laid.scoped in
-      record { args = a; all = rw z at (h.says record { bounds = q.bounds; ts = a.ps; to = a.to; laid = a.laid; many = a.many ∙ sym j.is }) }
+      let a = arguments (known q.laid e.kind) q.laid q.laid.ranged q.laid.scoped in
+      record { args = a; all = rw z at (h.says record { bounds = q.bounds; ts = a.ps; to = a.to; laid = a.laid; many = a.many ∙ sym j.is ∙ sym (length-take-le k us l) }) }
 
   -- the arguments have none
-  pub b_none : o ≡ took.Full → TookSays s m m₁ n at b Full
+  pub b_none : {w : Option ℕ} → o ≡ None → w ≡ None → TookSays s m m₁ n n₁ at b w
   unfolding takes
-  b_none z = record { long = h.long; says = λ q. let i = inner q z in go q i.args i.all }
+  b_none z y = rw y record { long = h.long; says = λ q. let i = inner q z in go q i.args i.all }
     where
       go : (q : Taking s m n at b) (a : Arguments s at (sizeᶜ q.bounds.ks) (sizeᶜ q.bounds.xs) q.t) {vs : List ℕ} {cs : Closures}
-          → TookAll s m m₁ n (takesᵗ a.ps) vs cs took.Full → TookOne s m m₁ n (takes q.t) (value q.t q.bounds.ks q.bounds.xs) Full
+          → TookAll s m m₁ n n₁ (takesᵗ a.ps) vs cs None → TookOne s m m₁ n n₁ (takes q.t) (value q.t q.bounds.ks q.bounds.xs) None
       go q a (full l) = full (let y : takes q.t ≡ suc (takesᵗ a.ps) = ap takes a.is in omega arith)
 
   -- the constructor has one, or none
-  pub b_kept : {r t : ℕ} {m₂ : List ℕ} {w : Taken} → o ≡ took.Free r → t ≡ get_or s at 0 % 256 → BuiltOr m₁ m₂ r t (take k vs') w → TookSays s m m₂ n at b w
+  pub b_kept : {t n₂ : ℕ} {m₂ : List ℕ} {u : Unit {0}} {w : Option ℕ} → t ≡ get_or s at 0 % 256 → o ≡ Some u → BuiltOr m₁ m₂ n₁ n₂ t vs w
+      → TookSays s m m₂ n n₂ at b w
   unfolding takes value
-  b_kept {r} {t} {m₂} z f u = record { long = built_long u ∙ h.long; says = λ q. let i = inner q z in go q i.args i.all u }
+  b_kept {t} {n₂} {m₂} {u} f z x = record { long = built_long x ∙ h.long; says = λ q. let i = inner q z in go q i.args i.all x }
     where
-      go : (q : Taking s m n at b) (a : Arguments s at (sizeᶜ q.bounds.ks) (sizeᶜ q.bounds.xs) q.t) {w : Taken}
-          → TookAll s m m₁ n (takesᵗ a.ps) (take k vs') (values a.ps q.bounds.ks q.bounds.xs) (took.Free r)
-          → BuiltOr m₁ m₂ r t (take k vs') w
-          → TookOne s m m₂ n (takes q.t) (value q.t q.bounds.ks q.bounds.xs) w
-      go q a (taken i g v) (is_built {n' = n'} j u) =
+      go : (q : Taking s m n at b) (a : Arguments s at (sizeᶜ q.bounds.ks) (sizeᶜ q.bounds.xs) q.t) {w : Option ℕ}
+          → TookAll s m m₁ n n₁ (takesᵗ a.ps) vs (values a.ps q.bounds.ks q.bounds.xs) (Some u)
+          → BuiltOr m₁ m₂ n₁ n₂ t vs w
+          → TookOne s m m₂ n n₂ (takes q.t) (value q.t q.bounds.ks q.bounds.xs) w
+      go q a (taken i g v) (is_built k j u) =
           let y : q.t ≡ con t a.ps = a.is ∙ ap (λ (w : ℕ). con w a.ps) (sym f) in
-          rw (y, j) (taken {r = r} {n' = r + record_words} (omega arith) (grown_on g u.grown) (u.says s (values a.ps q.bounds.ks q.bounds.xs) v))
-      go q a (taken i g v) (not_built l e) = full (let y : takes q.t ≡ suc (takesᵗ a.ps) = ap takes a.is in omega (arith, g.long, g.room))
+          rw (y, k, j) (taken {r = n₁} (omega arith) (grown_on g u.grown) (u.says s (values a.ps q.bounds.ks q.bounds.xs) v))
+      go q a (taken i g v) (not_built l e k) = full (let y : takes q.t ≡ suc (takesᵗ a.ps) = ap takes a.is in omega (arith, g.long, g.room))
 
-pub ruleset ways = (t_source, t_continuation, t_number, t_function, b_none, b_kept, inside, short_place, numbered, constructed, counts, rules)
+pub ruleset ways = (t_source, t_continuation, t_number, t_function, inside, short_place, numbered, constructed, rules)

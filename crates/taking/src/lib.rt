@@ -2,12 +2,12 @@
 
 #![tactic(auto)]
 
-ghost use Rattle.std.specs.Prelude.{◌+◌, ◌*◌, ◌/◌, ◌<◌, ◌≤◌, ◌≡◌, length, get_or};
+ghost use Rattle.std.specs.Prelude.{◌+◌, ◌*◌, ◌<◌, ◌%◌, ◌≡◌, length, get_or};
 ghost use Rattle.language.specs.Words.{word_end};
 ghost use Rattle.taking.specs.Standing.{Stands, Standᵗ, Ends, Constructed, Counts};
-ghost use Rattle.taking.specs.Taking.{TookSays, TookAllSays};
+ghost use Rattle.taking.specs.Taking.{Heads, Took, TookEach};
 
-use records::Taken;
+use records::Records;
 
 // The kinds of head words that an atom may have besides a function's.
 const SOURCE: u16 = 1;
@@ -24,24 +24,30 @@ const WORD_END: u32 = 65536;
 // The most values that are taken together: what is called, and sixteen arguments.
 const MOST_VALUES: usize = 17;
 
-// What is bound where a term stands: to continuation variables and to source variables, each the binding made last.
+// What the head word of an atom says: a variable's index, a constructor's tag.
 #[derive(Clone, Copy)]
-pub struct Bound {
-    pub continuations: usize,
-    pub sources: usize,
+enum Atom {
+    Source(usize),
+    Continuation(usize),
+    Constructor(u32),
+    Number,
+    Function,
 }
 
-// The first free word of the records after some values; or no record was left.
-#[derive(Clone, Copy)]
-pub enum Took {
-    Free(usize),
-    Full,
-}
-
-fn wide(w: u16) -> u32
-    ensures { (result ≡ w) × (result < 65536) }
-{
-    w as u32
+impl Atom {
+    // What a head word says, where it is the head of an atom.
+    fn of(word: u16) -> Atom
+        ensures { Heads word result }
+    {
+        let low = word % language::LOW_BYTE;
+        match word / language::LOW_BYTE {
+            SOURCE => Atom::Source(usize::from(low)),
+            CONTINUATION => Atom::Continuation(usize::from(low)),
+            CONSTRUCTOR => Atom::Constructor(u32::from(low)),
+            NUMBER => Atom::Number,
+            _ => Atom::Function,
+        }
+    }
 }
 
 // The place after the term at a place.
@@ -53,7 +59,7 @@ pub fn skip(image: &[u16], at: usize) -> usize
     let mut pieces = 1;
     while 0 < pieces {
         let head = atoms::opening_at(image, next);
-        pieces = pieces - 1 + head.pieces as usize;
+        pieces = pieces - 1 + usize::from(head.pieces);
         next += head.words;
     }
     next
@@ -64,33 +70,7 @@ fn number_at(image: &[u16], at: usize) -> u32
     requires { at + 2 < length image.now }
     ensures { result ≡ get_or image.now (at + 1) 0 * word_end + get_or image.now (at + 2) 0 }
 {
-    let high = wide(image[at + 1]);
-    let low = wide(image[at + 2]);
-    high * WORD_END + low
-}
-
-// The value of the atom at a place.
-#[cycle(taking)]
-pub fn take(records: &mut [u32], image: &[u16], at: usize, bound: Bound, free: usize) -> Taken
-    requires { Stands image.now at }
-    ensures { TookSays image.now records.old records.new free at bound result }
-{
-    let word = image[at];
-    let kind = word / language::LOW_BYTE;
-    let low = (word % language::LOW_BYTE) as usize;
-    if kind == SOURCE {
-        return Taken::At(records::find(records, bound.sources, low), free);
-    }
-    if kind == CONTINUATION {
-        return Taken::At(records::find(records, bound.continuations, low), free);
-    }
-    if kind == NUMBER {
-        return records::keep_number(records, free, number_at(image, at));
-    }
-    if kind == CONSTRUCTOR {
-        return build(records, image, at, bound, free);
-    }
-    records::keep_function(records, free, at as u32, bound.continuations, bound.sources)
+    u32::from(image[at + 1]) * WORD_END + u32::from(image[at + 2])
 }
 
 // How many arguments the constructor at a place has.
@@ -98,61 +78,73 @@ fn count_at(image: &[u16], at: usize) -> usize
     requires { Constructed image.now at }
     ensures { Counts image.now at result }
 {
-    wide(image[at + 1]) as usize
+    usize::from(image[at + 1])
 }
 
-// The value of the constructor at a place.
-#[cycle(taking)]
-fn build(records: &mut [u32], image: &[u16], at: usize, bound: Bound, free: usize) -> Taken
-    requires { Constructed image.now at }
-    ensures { TookSays image.now records.old records.new free at bound result }
-{
-    let tag = wide(image[at] % language::LOW_BYTE);
-    let count = count_at(image, at);
-    let mut values = [0usize; MOST_VALUES];
-    match take_all(
-        records,
-        &mut values,
-        image,
-        at + atoms::HEAD_AND_COUNT,
-        count,
-        bound,
-        free,
-    ) {
-        Took::Full => Taken::Full,
-        Took::Free(after) => building::keep_constructor(records, after, tag, &values[..count]),
+// What is bound where a term stands: to continuation variables and to source variables, each the binding made last.
+#[derive(Clone, Copy)]
+pub struct Bound {
+    pub continuations: usize,
+    pub sources: usize,
+}
+
+// An image, and what is bound where the terms stand that are taken from it.
+#[derive(Clone, Copy)]
+pub struct Taker<'a> {
+    pub image: &'a [u16],
+    pub bound: Bound,
+}
+
+impl<'a> Taker<'a> {
+    // The value of the atom at a place; or no record was left.
+    #[cycle(taking)]
+    pub fn take(&self, records: &mut Records<'_>, at: usize) -> Option<usize>
+        requires { Stands self.now.image.now at }
+        ensures same_reference { records.new.words.ghost_name ≡ records.old.words.ghost_name }
+        ensures took { Took self.now at records.old records.new result }
+    {
+        let Bound {
+            continuations,
+            sources,
+        } = self.bound;
+        match Atom::of(self.image[at]) {
+            Atom::Source(index) => Some(records.find(sources, index)),
+            Atom::Continuation(index) => Some(records.find(continuations, index)),
+            Atom::Number => records.keep_number(number_at(self.image, at)),
+            Atom::Constructor(tag) => self.build(records, at, tag),
+            Atom::Function => records.keep_function(at as u32, continuations, sources),
+        }
     }
-}
 
-// The values of so many atoms, from a place on, in the order of their words. What stands behind the last need not be found.
-#[cycle(taking)]
-pub fn take_all(
-    records: &mut [u32],
-    values: &mut [usize],
-    image: &[u16],
-    at: usize,
-    count: usize,
-    bound: Bound,
-    free: usize,
-) -> Took
-    requires { Standᵗ image.now at count × (count ≤ length values.old) }
-    ensures { TookAllSays image.now records.old records.new values.old values.new free at count bound result }
-{
-    let mut place = at;
-    let mut next = free;
-    let mut i = 0;
-    while i < count {
-        match take(records, image, place, bound, next) {
-            Taken::Full => return Took::Full,
-            Taken::At(value, after) => {
-                values[i] = value;
-                next = after;
+    // The value of the constructor at a place, which has this tag.
+    #[cycle(taking)]
+    fn build(&self, records: &mut Records<'_>, at: usize, tag: u32) -> Option<usize>
+        requires { Constructed self.now.image.now at × (tag ≡ get_or self.now.image.now at 0 % 256) }
+        ensures same_reference { records.new.words.ghost_name ≡ records.old.words.ghost_name }
+        ensures took { Took self.now at records.old records.new result }
+    {
+        let count = count_at(self.image, at);
+        let mut values = [0usize; MOST_VALUES];
+        let arguments = &mut values[..count];
+        self.take_all(records, arguments, at + atoms::HEAD_AND_COUNT)?;
+        building::keep_constructor(records, tag, arguments)
+    }
+
+    // The values of as many atoms as there are places for, in the order of their words. What stands behind the last need not be found.
+    #[cycle(taking)]
+    pub fn take_all(&self, records: &mut Records<'_>, values: &mut [usize], at: usize) -> Option<()>
+        requires { Standᵗ self.now.image.now at (length values.old) }
+        ensures same_reference { records.new.words.ghost_name ≡ records.old.words.ghost_name }
+        ensures took { TookEach self.now at records.old records.new values.old values.new result }
+    {
+        let count = values.len();
+        let mut place = at;
+        for (i, value) in values.iter_mut().enumerate() {
+            *value = self.take(records, place)?;
+            if i + 1 < count {
+                place = skip(self.image, place);
             }
         }
-        i += 1;
-        if i < count {
-            place = skip(image, place);
-        }
+        Some(())
     }
-    Took::Free(next)
 }

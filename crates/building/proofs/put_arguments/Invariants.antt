@@ -1,10 +1,8 @@
--- `building::put_arguments` meets its contract. The loop keeps: the links of the first i values are stored.
-use Rattle.std.proofs.Common.{◌-◌, length}
-use Rattle.building.proofs.Ways.{Putting}
+-- `building::put_arguments` meets its contract. The loop keeps: the references so far are written.
+use Rattle.std.proofs.Common.{◌≡◌, take}
+use Rattle.output.specs.Stored.{Writes}
+use Rattle.records.specs.Links.{links}
 use Rattle.building.proofs.put_arguments.Given as goal
 
-abbrev pub invariant-loop-i : goal.invariant-loop-i
-invariant-loop-i l = Putting l.values l.fn.records l.at l.records l.next l.i
-
-abbrev pub decreases-loop-i : goal.decreases-loop-i
-decreases-loop-i l = length l.values - l.i
+abbrev pub invariant-loop-value : goal.invariant-loop-value
+invariant-loop-value l = (l.record.words.ghost_name ≡ l.fn.record.words.ghost_name) × Writes (links (take l.value-index l.values)) l.fn.record l.record

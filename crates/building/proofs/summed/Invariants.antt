@@ -1,10 +1,7 @@
--- `building::summed` meets its contract. The loop keeps: what is summed up so far is what the first i values tell.
-use Rattle.std.proofs.Common.{◌-◌, length}
-use Rattle.building.proofs.Ways.{Summing}
+-- `building::summed` meets its contract. The loop keeps: what is summed up so far is what the values so far tell.
+use Rattle.std.proofs.Common.{take}
+use Rattle.building.specs.Built.{Summed}
 use Rattle.building.proofs.summed.Given as goal
 
-abbrev pub invariant-loop-i : goal.invariant-loop-i
-invariant-loop-i l = Summing l.records l.values l.i l.sum.grade l.sum.last
-
-abbrev pub decreases-loop-i : goal.decreases-loop-i
-decreases-loop-i l = length l.values - l.i
+abbrev pub invariant-loop-value : goal.invariant-loop-value
+invariant-loop-value l = Summed l.records (take l.value-index l.values) l.sum.grade l.sum.last
