@@ -1,47 +1,38 @@
 -- Marks stand for tags and arities: two marks are one exactly where tag and arity are, and the front of a table of marks, with one more stored behind
 -- it, stands for one arm more.
 -- Assumes nothing.
-use Prim.Native.Nat.{ℕ, suc, ◌+◌, ◌/◌, ◌%◌, ◌<◌, ◌≤◌}
-use mathlib.Core.Path.{◌≡◌, refl, sym, ap, ◌∙◌}
-use mathlib.Core.Bool.{Bool, true, false, ◌||◌}
+use Prim.Native.Nat.{ℕ, ◌+◌, ◌/◌, ◌%◌, ◌<◌}
+use mathlib.Core.Path.{◌≡◌, refl, ap, ◌∙◌}
+use mathlib.Core.Bool.{Bool, true, false}
 use mathlib.Core.List.{List, [], ◌∷◌, ◌++◌, map-append}
 use native.Mathlib.Omega.{arith}
 use native.Mathlib.Numerals.{add-one}
-use lib.ListN.{length, get_or, take, drop, set, drop_of_length-le}
-use lib.Seq.{drop-cons, take-suc-set}
-use borrow.Author.Rules.{rules}
+use lib.Dec.{eqb}
+use borrow.Author.Tests.{eq-eqb, ne_eqb}
+use lib.ListN.{length, take, set}
+use lib.Seq.{take-suc-set}
+use Rattle.std.specs.List.{list_any}
 use Rattle.language.specs.Run.{both}
 use Rattle.language.specs.Dead.{dead}
+use Rattle.language.proofs.Clash.{never}
 use Rattle.language.proofs.Forms.{both_same, same_both}
 use Rattle.arities.specs.Marks.{mark_of, unmark, unmarked}
 
--- whether one of the marks ms is x
-abbrev pub among : ℕ → List ℕ → Bool
-among x ms = dead (x / 256) (x % 256) (unmarked ms)
-
-other_mark : (x y : ℕ) → (y ≡ x → ⊥) → both (x / 256) (x % 256) (y / 256) (y % 256) ≡ false
-other_mark x y n = go (both (x / 256) (x % 256) (y / 256) (y % 256)) refl
+-- a mark is another exactly where tag and arity are
+same_mark : (x y : ℕ) → eqb y x ≡ both (x / 256) (x % 256) (y / 256) (y % 256)
+same_mark x y = go (both (x / 256) (x % 256) (y / 256) (y % 256)) refl
   where
-    go : (e : Bool) → both (x / 256) (x % 256) (y / 256) (y % 256) ≡ e → e ≡ false
-    go true e = let p = same_both (x / 256) (x % 256) (y / 256) (y % 256) e in absurd (n (omega (arith, p.0, p.1)))
-    go false e = refl
+    go : (e : Bool) → both (x / 256) (x % 256) (y / 256) (y % 256) ≡ e → eqb y x ≡ e
+    go true e = let p = same_both (x / 256) (x % 256) (y / 256) (y % 256) e in eq-eqb y x (omega (arith, p.0, p.1))
+    go false e = ne_eqb y x (λ q. let p = rw q at e in let s = both_same (x / 256) (x % 256) in never cc)
 
--- looking through them from the first on: what is still to be looked at decides
-module _ (x i : ℕ) (ms : List ℕ) (rest : among x (drop i ms) ≡ among x ms) where
-  pub k_end : length ms ≤ i → false ≡ among x ms
-  unfolding unmarked dead
-  k_end h = ap (among x) (sym (drop_of_length-le ms h)) ∙ rest
+any_mark : (x : ℕ) (marks : List ℕ) → list_any (λ y. eqb y x) marks ≡ dead (x / 256) (x % 256) (unmarked marks)
+unfolding unmarked dead
+any_mark x [] = refl
+any_mark x (y ∷ marks) = rw (same_mark x y, any_mark x marks)
 
-  module _ (h : i < length ms) where
-    first : among x (drop i ms) ≡ (both (x / 256) (x % 256) (get_or ms i 0 / 256) (get_or ms i 0 % 256) || among x (drop (suc i) ms))
-    unfolding unmarked dead
-    first = ap (among x) (drop-cons ms i 0 h)
-
-    pub k_here : get_or ms i 0 ≡ x → true ≡ among x ms
-    k_here e = sym (first ∙ rw (e, both_same (x / 256) (x % 256))) ∙ rest
-
-    pub k_next : (get_or ms i 0 ≡ x → ⊥) → among x (drop (i + 1) ms) ≡ among x ms
-    k_next n = simp add-one (sym (first ∙ simp (other_mark x (get_or ms i 0) n)) ∙ rest)
+pub among : (x : ℕ) (marks : List ℕ) {b : Bool} → b ≡ list_any (λ y. eqb y x) marks → b ≡ dead (x / 256) (x % 256) (unmarked marks)
+among x marks e = e ∙ any_mark x marks
 
 -- one mark more
 unmark_mark : (w m : ℕ) → m < 256 → unmark (mark_of w m) ≡ (w % 256, m)
@@ -55,5 +46,3 @@ pub marked_more : (ms : List ℕ) (k w m : ℕ) → k < length ms → m < 256
 unfolding unmarked
 marked_more ms k w m h l = simp add-one (ap unmarked (take-suc-set ms k (mark_of w m) h)
     ∙ map-append unmark (take k ms) (mark_of w m ∷ []) ∙ ap (λ x. unmarked (take k ms) ++ (x ∷ [])) (unmark_mark w m l))
-
-pub ruleset looking = (k_end, k_here, k_next, rules)

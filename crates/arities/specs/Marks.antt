@@ -1,15 +1,16 @@
 -- What the readers of second words say of what they read, and the marks by which they know the arms of a match.
-use Rattle.std.specs.Prelude.{ℕ, ◌+◌, ◌*◌, ◌/◌, ◌%◌, List, map}
+use Rattle.std.specs.Prelude.{ℕ, ◌+◌, ◌*◌, ◌/◌, ◌%◌, List, map, Result, Ok, Err}
 use Rattle.language.specs.Setting.{Setting}
 use Rattle.language.specs.Kinds.{at_arm, head_of}
 use Rattle.language.specs.Read.{Got, found, fault, word, headed, unlike}
-use Rattle.arities.specs.declared.Count.{Count}
-use Rattle.arities.specs.declared.Count.TheVariants.{Is, Not}
+use Rattle.language.specs.Faults.{number_of}
+use Rattle.language.specs.declared.Refusal.{Refusal}
+use Rattle.arities.specs.declared.Counted.{Counted}
 
--- a count that was read, or the fault
-unfoldable pub count_of : Got ℕ → Count
-count_of (found m to) = Is m to
-count_of (fault e p) = Not e p
+-- what the code's answer says of a second word: a count that was read, or the fault
+abbrev pub counted : Result Counted Refusal → Got ℕ
+counted (Ok c) = found c.count c.to
+counted (Err r) = fault (number_of r.fault) r.place
 
 -- an arm's mark: the low bytes of its two words, its tag and its arity, in one word; the two again; and those of several arms
 abbrev pub mark_of : ℕ → ℕ → ℕ

@@ -6,30 +6,30 @@ ghost use Rattle.std.specs.Prelude.{◌≡◌, ◌/◌, ◌%◌};
 ghost use Rattle.language.specs.Dead.{dead};
 ghost use Rattle.language.specs.Setting.{in_version};
 ghost use Rattle.language.specs.Read.{second, unlike};
-ghost use Rattle.arities.specs.Marks.{mark_of, unmarked, arity, count_of};
+ghost use Rattle.arities.specs.Marks.{mark_of, unmarked, arity, counted};
 
-use language::{Head, LOW_BYTE};
+use language::{Fault, LOW_BYTE, Refusal, Stand};
 
-// What reading a second word gives: a count and the place after it; or a refusal's number and its place.
+// What a second word tells: a count, and the place after it.
 #[derive(Clone, Copy)]
-pub enum Count {
-    Is(u16, usize),
-    Not(u8, usize),
+pub struct Counted {
+    pub count: u16,
+    pub to: usize,
 }
 
 // A second word: how many arguments.
-#[tactic(auto, using(crate::proofs::Ways::ways))]
-pub fn second_at(s: &[u16], at: usize) -> Count
-    ensures { result ≡ count_of (second s.now at) }
+#[tactic(auto, unfolding(language::specs::Read::second))]
+pub fn second_at(s: &[u16], at: usize) -> Result<Counted, Refusal>
+    ensures { counted result ≡ second s.now at }
 {
     if s.len() <= at {
-        return Count::Not(language::NONE_LEFT, s.len());
+        return Err(Fault::NoneLeft.at(s.len()));
     }
-    let m = s[at];
-    if (language::MOST_ARGUMENTS as u16) < m {
-        return Count::Not(language::OUT_OF_RANGE, at);
+    let count = s[at];
+    if u16::from(language::MOST_ARGUMENTS) < count {
+        return Err(Fault::OutOfRange.at(at));
     }
-    Count::Is(m, at + 1)
+    Ok(Counted { count, to: at + 1 })
 }
 
 // An arm's mark: the low bytes of its two words, its tag and its arity, in one word.
@@ -40,48 +40,33 @@ pub fn mark(w: u16, m: u16) -> u16
 }
 
 // Whether one of the marks is this one.
-#[tactic(auto, using(crate::proofs::Marks::looking))]
 fn is_among(x: u16, marks: &[u16]) -> bool
     ensures { result ≡ dead (x / 256) (x % 256) (unmarked marks.now) }
 {
-    let mut i = 0;
-    while i < marks.len() {
-        if marks[i] == x {
-            return true;
-        }
-        i += 1;
-    }
-    false
+    marks.contains(&x)
 }
 
 // The second word of an arm with the head w, its arity; the arms before it in its match have these marks.
-#[tactic(auto, using(crate::proofs::Ways::ways))]
-fn unlike_at(s: &[u16], at: usize, w: u16, marks: &[u16]) -> Count
-    ensures { result ≡ count_of (unlike s.now (unmarked marks.now) (w % 256) at) }
+#[tactic(auto, using(crate::proofs::Ways::dead_there, crate::proofs::Ways::alive_there), unfolding(language::specs::Read::unlike, language::specs::Read::then))]
+fn unlike_at(s: &[u16], at: usize, w: u16, marks: &[u16]) -> Result<Counted, Refusal>
+    ensures { counted result ≡ unlike s.now (unmarked marks.now) (w % 256) at }
 {
-    match second_at(s, at) {
-        Count::Not(e, p) => Count::Not(e, p),
-        Count::Is(m, to) => {
-            if is_among(mark(w, m), marks) {
-                Count::Not(language::DEAD_ARM, at)
-            } else {
-                Count::Is(m, to)
-            }
-        }
+    let arity = second_at(s, at)?;
+    if is_among(mark(w, arity.count), marks) {
+        return Err(Fault::DeadArm.at(at));
     }
+    Ok(arity)
 }
 
 // An arm's two words: its arity.
-#[tactic(auto, using(crate::proofs::Ways::ways))]
-pub fn arity_at(version: u8, s: &[u16], at: usize, marks: &[u16]) -> Count
-    ensures { result ≡ count_of (arity (in_version version) s.now (unmarked marks.now) at) }
+#[tactic(auto, unfolding(crate::specs::Marks::arity))]
+pub fn arity_at(version: u8, s: &[u16], at: usize, marks: &[u16]) -> Result<Counted, Refusal>
+    ensures { counted result ≡ arity (in_version version) s.now (unmarked marks.now) at }
 {
     if s.len() <= at {
-        return Count::Not(language::NONE_LEFT, s.len());
+        return Err(Fault::NoneLeft.at(s.len()));
     }
     let w = s[at];
-    match language::look(version, language::AT_ARM, w) {
-        Head::Refused(e) => Count::Not(e, at),
-        Head::Opens(_) => unlike_at(s, at + 1, w, marks),
-    }
+    language::look(version, Stand::AtArm, w).map_err(|fault| fault.at(at))?;
+    unlike_at(s, at + 1, w, marks)
 }
