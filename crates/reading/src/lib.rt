@@ -2,17 +2,17 @@
 
 #![tactic(auto)]
 
-ghost use Rattle.std.specs.Prelude.{◌≡◌, ◌+◌, ◌*◌, ◌≤◌, ◌<◌, cond, [], ltb, length};
+ghost use Rattle.std.specs.Prelude.{◌≡◌, ◌+◌, ◌-◌, ◌*◌, ◌≤◌, ◌<◌, ◌&&◌, Bool, true, false, cond, [], ltb, length, MatchResult};
 ghost use Rattle.language.specs.Term.{var, num};
 ghost use Rattle.language.specs.Setting.{in_version};
 ghost use Rattle.language.specs.Kinds.{most_arms, most_byte};
+ghost use Rattle.language.specs.Limits.{deepest};
+ghost use Rattle.language.specs.declared.Fault.TheVariants.{LeftOver};
 ghost use Rattle.language.specs.Read.{found, fault, then, made, number, many, arms_of, opened, term, closed, ended, read};
 ghost use Rattle.language.specs.Calls.{reply_of, checked, measured};
-ghost use Rattle.reading.specs.Steps.{a_word, small, term_step, terms_step, arms_step, FewArms, words_of, grown_of, built_of, Roomy, stands_at, ended_at};
-ghost use Rattle.reading.specs.Answers.{checked_reply};
+ghost use Rattle.reading.specs.Steps.{a_word, small, function_words, constructor_words, saved_words, step_is, term_step, terms_step, arms_step, FewArms};
 
-use arities::Count;
-use language::{Answer, Head, LOW_BYTE, Parts, Row};
+use language::{Fault, LOW_BYTE, Parts, Refusal, Row, Stand};
 
 // The words of a variable's passing form and of a number's, and those that each other form has besides its parts' passing forms and chains.
 const VARIABLE_WORDS: usize = 4;
@@ -41,293 +41,322 @@ const CHAINED_WORDS: usize = 3;
 // What each argument of a constructor of atoms saves: its words in a chain, and what its passing form has besides its carried form.
 const SAVED_WORDS: usize = 6;
 
-// What reading a thing gives: the place after it, whether it is all atoms, and its words in an image (of a term the passing
-// form's, of a list the chain's); or a refusal's number and its place.
+// What was read: the place after it, whether it is all atoms, and its words in an image (of a term the passing form's, of a list the chain's).
 #[derive(Clone, Copy)]
-enum Step {
-    Next(usize, bool, usize),
-    No(u8, usize),
+struct Found {
+    to: usize,
+    atoms: bool,
+    words: usize,
 }
 
-// The checking call's reply: success; or a refusal's number and its place.
-#[derive(Clone, Copy)]
-pub enum Checked {
-    Success,
-    Refusal(u8, usize),
-}
+impl Found {
+    // Nothing yet, at this place: of a list all atoms, of arms not.
+    fn nothing(to: usize, atoms: bool) -> Found
+        ensures { result ≡ record { to = to; atoms = atoms; words = 0 } }
+    {
+        Found {
+            to,
+            atoms,
+            words: 0,
+        }
+    }
 
-// A larger thing that is no atom: z words more of a part before it and by words of its own.
-fn grown(r: Step, z: usize, by: usize) -> Step
-    requires { (words_of r ≤ small) × (z ≤ small) × (by ≤ small) }
-    ensures { result ≡ grown_of z by r }
-{
-    match r {
-        Step::No(e, p) => Step::No(e, p),
-        Step::Next(to, _, y) => Step::Next(to, false, y + z + by),
+    // An atom, with so many words in its passing form.
+    fn atom(to: usize, words: usize) -> Found
+        ensures { result ≡ record { to = to; atoms = true; words = words } }
+    {
+        Found {
+            to,
+            atoms: true,
+            words,
+        }
+    }
+
+    // The function of this body. It is an atom.
+    fn function(self) -> Found
+        requires { self.words ≤ small }
+        ensures { result ≡ record { to = self.to; atoms = true; words = self.words + function_words } }
+    {
+        Found::atom(self.to, self.words + FUNCTION_WORDS)
+    }
+
+    // A larger thing that is no atom: so many words more of a part before this one, and so many of its own.
+    fn grown(self, part: usize, own: usize) -> Found
+        requires { (self.words ≤ small) × (part ≤ small) × (own ≤ small) }
+        ensures { result ≡ record { to = self.to; atoms = false; words = self.words + part + own } }
+    {
+        Found {
+            atoms: false,
+            words: self.words + part + own,
+            ..self
+        }
+    }
+
+    // The constructor of these arguments, so many: their carried forms if all are atoms, else the chain over them.
+    fn constructor(self, arguments: usize) -> Found
+        requires { (self.words ≤ small) × (saved_words * arguments ≤ self.words) }
+        ensures { result ≡ record { to = self.to; atoms = self.atoms; words = cond self.atoms (self.words + constructor_words - saved_words * arguments) (self.words + constructor_words) } }
+    {
+        let words = self.words + CONSTRUCTOR_WORDS;
+        if self.atoms {
+            let words = words - SAVED_WORDS * arguments;
+            return Found { words, ..self };
+        }
+        Found { words, ..self }
+    }
+
+    // This, and one thing more behind it, which has so many words besides.
+    fn and(self, next: Found, own: usize) -> Found
+        requires { (self.words ≤ 2 * small * a_word) × (next.words ≤ small) × (own ≤ small) }
+        ensures { result ≡ record { to = next.to; atoms = self.atoms && next.atoms; words = self.words + next.words + own } }
+    {
+        Found {
+            to: next.to,
+            atoms: self.atoms && next.atoms,
+            words: self.words + next.words + own,
+        }
     }
 }
 
-// A constructor of m arguments: their carried forms if all are atoms, else the chain over them.
-fn built(r: Step, m: usize) -> Step
-    requires { (words_of r ≤ small) × (m < a_word) × Roomy m r }
-    ensures { result ≡ built_of m r }
-{
-    match r {
-        Step::No(e, p) => Step::No(e, p),
-        Step::Next(to, b, z) => {
-            if b {
-                Step::Next(to, b, z + CONSTRUCTOR_WORDS - SAVED_WORDS * m)
-            } else {
-                Step::Next(to, b, z + CONSTRUCTOR_WORDS)
-            }
+// Where a term stands: the levels of depth left, and the source variables bound there. A level binds so few that their number never wraps.
+#[derive(Clone, Copy)]
+struct Level {
+    left: usize,
+    bound: usize,
+    ghost few: { bound + a_word * left ≤ small },
+}
+
+impl Level {
+    // Where a closed term stands.
+    fn top() -> Level
+        ensures { (result.left ≡ deepest) × (result.bound ≡ 0) }
+    {
+        Level {
+            left: language::DEEPEST,
+            bound: 0,
+        }
+    }
+
+    // Where a part stands, under so many source variables more.
+    fn below(self, binds: usize) -> Level
+        requires { (0 < self.left) × (binds ≤ a_word) }
+        ensures { (result.left ≡ self.left - 1) × (result.bound ≡ self.bound + binds) }
+    {
+        Level {
+            left: self.left - 1,
+            bound: self.bound + binds,
         }
     }
 }
 
 // A variable, at this place, with this index.
-fn variable_at(at: usize, index: usize, bound: usize) -> Step
+#[tactic(auto, using(sizes::proofs::Lengths::of_var), unfolding(crate::specs::Steps::step_of, language::specs::Run::atom))]
+fn variable_at(at: usize, index: usize, bound: usize) -> Result<Found, Refusal>
     requires { at < a_word }
-    ensures { result ≡ term_step (cond (ltb index bound) (found (var index) (at + 1)) (fault 7 at)) }
+    ensures { step_is result ≡ term_step (cond (ltb index bound) (found (var index) (at + 1)) (fault 7 at)) }
 {
-    let next = at + 1;
     if index < bound {
-        Step::Next(next, true, VARIABLE_WORDS)
+        Ok(Found::atom(at + 1, VARIABLE_WORDS))
     } else {
-        Step::No(language::UNBOUND, at)
+        Err(Fault::Unbound.at(at))
     }
 }
 
 // A number, from the first of its two words on: these are tested for 3 only.
-fn number_at(s: &[u16], at: usize) -> Step
+#[tactic(auto, using(sizes::proofs::Lengths::of_num), unfolding(crate::specs::Steps::step_of, language::specs::Run::atom, language::specs::Read::made, language::specs::Read::number))]
+fn number_at(s: &[u16], at: usize) -> Result<Found, Refusal>
     requires { at ≤ a_word }
-    ensures { result ≡ term_step (made num (number s.now at)) }
+    ensures { step_is result ≡ term_step (made num (number s.now at)) }
 {
     if at + 1 < s.len() {
-        Step::Next(at + 2, true, NUMBER_WORDS)
+        Ok(Found::atom(at + 2, NUMBER_WORDS))
     } else {
-        Step::No(language::NONE_LEFT, s.len())
+        Err(Fault::NoneLeft.at(s.len()))
     }
 }
 
-// A term in version v, with so many levels of depth left, under so many source variables.
-#[cycle(terms)]
-fn term_at(v: u8, s: &[u16], at: usize, left: usize, bound: usize) -> Step
-    requires { (length s.now ≤ a_word) × (bound + a_word * left ≤ small) }
-    ensures { result ≡ term_step (term (in_version v) s.now left bound at) }
-{
-    if s.len() <= at {
-        return Step::No(language::NONE_LEFT, s.len());
-    }
-    if left == 0 {
-        return Step::No(language::TOO_DEEP, at);
-    }
-    let w = s[at];
-    match language::look(v, language::AT_TERM, w) {
-        Head::Refused(e) => Step::No(e, at),
-        Head::Opens(row) => opened_at(v, s, at, left - 1, bound, (w % LOW_BYTE) as usize, row),
-    }
+// A table of words, read in a version. It has so few that what is counted in it never wraps.
+#[derive(Clone, Copy)]
+struct Table<'a> {
+    version: u8,
+    words: &'a [u16],
+    ghost few: { length words.now ≤ a_word },
 }
 
-// The term whose head, at this place, has this low byte and this row; its parts have so many levels of depth left.
-#[cycle(terms)]
-fn opened_at(v: u8, s: &[u16], at: usize, left: usize, bound: usize, low: usize, row: Row) -> Step
-    requires { (length s.now ≤ a_word) × (bound + a_word * (left + 1) ≤ small) × (at < length s.now) × (low ≤ most_byte) × (row.binds ≤ 1)
-        × FewArms row.parts low }
-    ensures { result ≡ term_step (opened (in_version v) s.now (term (in_version v) s.now left) bound at low row.binds
-        row.parts) }
-{
-    let next = at + 1;
-    let binds = row.binds as usize;
-    let parts = row.parts;
-    match parts {
-        Parts::Nothing => variable_at(at, low, bound),
-        Parts::Body => match term_at(v, s, next, left, bound + low + binds) {
-            Step::No(e, p) => Step::No(e, p),
-            Step::Next(to, _, z) => Step::Next(to, true, z + FUNCTION_WORDS),
-        },
-        Parts::FunctionAndArguments => match term_at(v, s, next, left, bound) {
-            Step::No(e, p) => Step::No(e, p),
-            Step::Next(to, _, z) => grown(terms_at(v, s, to, left, bound, low), z, CALL_WORDS),
-        },
-        Parts::BoundAndBody => match term_at(v, s, next, left, bound) {
-            Step::No(e, p) => Step::No(e, p),
-            Step::Next(to, _, z) => grown(term_at(v, s, to, left, bound + binds), z, LET_WORDS),
-        },
-        Parts::CountAndArguments => match arities::second_at(s, next) {
-            Count::Not(e, second) => Step::No(e, second),
-            Count::Is(m, to) => built(terms_at(v, s, to, left, bound, m as usize), m as usize),
-        },
-        Parts::SubjectAndArms => match term_at(v, s, next, left, bound) {
-            Step::No(e, p) => Step::No(e, p),
-            Step::Next(to, _, z) => grown(arms_at(v, s, to, left, bound, low), z, MATCH_WORDS),
-        },
-        Parts::ArityAndBody => Step::No(language::WRONG_KIND, at),
-        Parts::HighAndLow => number_at(s, next),
-        Parts::TwoParts => {
-            let chain = terms_at(v, s, next, left, bound, language::OPERANDS as usize);
-            grown(chain, 0, OPERATION_WORDS)
+impl<'a> Table<'a> {
+    // The term at this place.
+    #[cycle(terms)]
+    #[tactic(auto, using(crate::proofs::Sums::row_binds, crate::proofs::Sums::row_arms), unfolding(crate::specs::Steps::step_of, language::specs::Read::term))]
+    fn term(self, at: usize, level: Level) -> Result<Found, Refusal>
+        ensures { step_is result ≡ term_step (term (in_version self.entry.version) self.entry.words.now level.left level.bound at) }
+    {
+        if self.words.len() <= at {
+            return Err(Fault::NoneLeft.at(self.words.len()));
         }
+        if level.left == 0 {
+            return Err(Fault::TooDeep.at(at));
+        }
+        let head = self.words[at];
+        let row = language::look(self.version, Stand::AtTerm, head).map_err(|fault| fault.at(at))?;
+        self.opened(at, level, usize::from(head % LOW_BYTE), row)
     }
-}
 
-// So many terms, one after the other.
-#[cycle(terms)]
-fn terms_at(v: u8, s: &[u16], at: usize, left: usize, bound: usize, count: usize) -> Step
-    requires { (length s.now ≤ a_word) × (bound + a_word * left ≤ small) × (count < a_word) }
-    ensures { result ≡ terms_step (many (term (in_version v) s.now left bound) count at) }
-{
-    let mut next = at;
-    let mut all = true;
-    let mut words = 0;
-    let mut i = 0;
-    while i < count {
-        match term_at(v, s, next, left, bound) {
-            Step::No(e, there) => return Step::No(e, there),
-            Step::Next(to, b, z) => {
-                next = to;
-                all = all && b;
-                words = words + z + CHAINED_WORDS;
+    // The term whose head, at this place, has this low byte and this row.
+    #[cycle(terms)]
+    #[tactic(auto, using(crate::proofs::Ways::ways), unfolding(crate::specs::Steps::step_of, language::specs::Read::opened))]
+    fn opened(self, at: usize, level: Level, low: usize, row: Row) -> Result<Found, Refusal>
+        requires { (0 < level.left) × (at < length self.words.now) × (low ≤ most_byte) × (row.binds ≤ 1) × FewArms row.parts low }
+        ensures { step_is result ≡ term_step (opened (in_version self.entry.version) self.entry.words.now (term (in_version self.entry.version) self.entry.words.now (level.left - 1)) level.bound at low row.binds row.parts) }
+    {
+        let next = at + 1;
+        let binds = usize::from(row.binds);
+        let inside = level.below(0);
+        match row.parts {
+            Parts::Nothing => variable_at(at, low, level.bound),
+            Parts::Body => Ok(self.term(next, level.below(low + binds))?.function()),
+            Parts::FunctionAndArguments => {
+                let function = self.term(next, inside)?;
+                let arguments = self.list(function.to, inside, low)?;
+                Ok(arguments.grown(function.words, CALL_WORDS))
+            }
+            Parts::BoundAndBody => {
+                let value = self.term(next, inside)?;
+                let body = self.term(value.to, level.below(binds))?;
+                Ok(body.grown(value.words, LET_WORDS))
+            }
+            Parts::CountAndArguments => {
+                let second = arities::second_at(self.words, next)?;
+                let count = usize::from(second.count);
+                let arguments = self.list(second.to, inside, count)?;
+                Ok(arguments.constructor(count))
+            }
+            Parts::SubjectAndArms => {
+                let subject = self.term(next, inside)?;
+                let arms = self.arms(subject.to, level, low)?;
+                Ok(arms.grown(subject.words, MATCH_WORDS))
+            }
+            Parts::ArityAndBody => Err(Fault::WrongKind.at(at)),
+            Parts::HighAndLow => number_at(self.words, next),
+            Parts::TwoParts => {
+                let operands = self.list(next, inside, usize::from(language::OPERANDS))?;
+                Ok(operands.grown(0, OPERATION_WORDS))
             }
         }
-        i += 1;
     }
-    Step::Next(next, all, words)
-}
 
-// The arms of a match, so many. Each arm's mark is kept for those behind it.
-#[cycle(terms)]
-fn arms_at(v: u8, s: &[u16], at: usize, left: usize, bound: usize, count: usize) -> Step
-    requires { (length s.now ≤ a_word) × (bound + a_word * (left + 1) ≤ small) × (count ≤ most_arms) }
-    ensures { result ≡ arms_step (arms_of (in_version v) s.now (term (in_version v) s.now left) [] bound count at) }
-{
-    let mut marks = [0u16; language::MOST_ARMS as usize];
-    let mut next = at;
-    let mut words = 0;
-    let mut i = 0;
-    while i < count {
-        match arities::arity_at(v, s, next, &marks[..i]) {
-            Count::Not(e, p) => return Step::No(e, p),
-            Count::Is(m, body) => {
-                marks[i] = arities::mark(s[next], m);
-                match term_at(v, s, body, left, bound + m as usize) {
-                    Step::No(e, p) => return Step::No(e, p),
-                    Step::Next(to, _, z) => {
-                        next = to;
-                        words = words + z + ARM_WORDS;
-                    }
-                }
-            }
+    // So many terms, one after the other.
+    #[cycle(terms)]
+    #[tactic(auto, using(crate::proofs::Ways::terms_ways))]
+    fn list(self, at: usize, level: Level, count: usize) -> Result<Found, Refusal>
+        requires { count < a_word }
+        ensures { step_is result ≡ terms_step (many (term (in_version self.entry.version) self.entry.words.now level.left level.bound) count at) }
+    {
+        let mut list = Found::nothing(at, true);
+        for _ in 0..count {
+            let term = self.term(list.to, level)?;
+            list = list.and(term, CHAINED_WORDS);
         }
-        i += 1;
+        Ok(list)
     }
-    Step::Next(next, false, words)
-}
 
-// The closed term that stands at a place of a table, after the tests of the version and of the table's length.
-fn closed_at(version: u16, s: &[u16], at: usize) -> Step
-    ensures { result ≡ term_step (closed (in_version version) s.now at) }
-{
-    if !language::is_known(version) {
-        return Step::No(language::WRONG_VERSION, language::NO_PLACE);
-    }
-    if s.len() == 0 {
-        return Step::No(language::NO_WORDS, language::NO_PLACE);
-    }
-    if language::MOST_WORDS < s.len() {
-        return Step::No(language::TOO_MANY_WORDS, language::NO_PLACE);
-    }
-    term_at(version as u8, s, at, language::DEEPEST, 0)
-}
-
-// Where reading stands after a step: at the word behind what was read, or at the place of the refusal.
-fn stands(step: Step) -> usize
-    ensures { result ≡ stands_at step }
-{
-    match step {
-        Step::No(_, p) => p,
-        Step::Next(to, _, _) => to,
-    }
-}
-
-// The test after the last word, at a place of a table, of what was read before that place.
-fn ended_at(s: &[u16], at: usize, step: Step) -> Step
-    ensures { result ≡ ended_at (length s.now) at step }
-{
-    match step {
-        Step::No(e, p) => Step::No(e, p),
-        Step::Next(to, all, z) => {
-            if at < s.len() {
-                Step::No(language::LEFT_OVER, at)
-            } else {
-                Step::Next(to, all, z)
-            }
+    // The arms of a match, so many. Each arm's mark is kept for those behind it.
+    #[cycle(terms)]
+    #[tactic(auto, using(crate::proofs::Ways::arms_ways))]
+    fn arms(self, at: usize, level: Level, count: usize) -> Result<Found, Refusal>
+        requires { (0 < level.left) × (count ≤ most_arms) }
+        ensures { step_is result ≡ arms_step (arms_of (in_version self.entry.version) self.entry.words.now (term (in_version self.entry.version) self.entry.words.now (level.left - 1)) [] level.bound count at) }
+    {
+        let mut marks = [0; language::MOST_ARMS as usize];
+        let mut arms = Found::nothing(at, false);
+        for i in 0..count {
+            let arity = arities::arity_at(self.version, self.words, arms.to, &marks[..i])?;
+            marks[i] = arities::mark(self.words[arms.to], arity.count);
+            let body = self.term(arity.to, level.below(usize::from(arity.count)))?;
+            arms = arms.and(body, ARM_WORDS);
         }
+        Ok(arms)
     }
 }
 
 // A reading place: the lent table, and the place of its next word.
 #[derive(Clone, Copy)]
 struct Reader<'a> {
-    table: &'a [u16],
+    words: &'a [u16],
     next: usize,
 }
 
-// The place of a table's first word.
-fn start<'a>(table: &'a [u16]) -> Reader<'a>
-    ensures { (result.table ≡ table.entry) × (result.next ≡ 0) }
-{
-    Reader { table, next: 0 }
-}
+impl<'a> Reader<'a> {
+    // The place of a table's first word.
+    fn start(words: &'a [u16]) -> Reader<'a>
+        ensures { (result.words ≡ words.entry) × (result.next ≡ 0) }
+    {
+        Reader { words, next: 0 }
+    }
 
-// The closed term at the reading place.
-fn closed_here<'a>(version: u16, r: Reader<'a>) -> Step
-    ensures { result ≡ term_step (closed (in_version version) r.entry.table.now r.entry.next) }
-{
-    closed_at(version, r.table, r.next)
-}
+    // The reading place moved to another word.
+    fn moved(self, to: usize) -> Reader<'a>
+        ensures { (result.words ≡ self.entry.words) × (result.next ≡ to) }
+    {
+        Reader { next: to, ..self }
+    }
 
-// The reading place moved to another word.
-fn moved<'a>(r: Reader<'a>, to: usize) -> Reader<'a>
-    ensures { (result.table ≡ r.entry.table) × (result.next ≡ to) }
-{
-    Reader {
-        table: r.table,
-        next: to,
+    // The closed term at the reading place, after the tests of the version and of the table's length.
+    #[tactic(auto, using(crate::proofs::Answers::known_byte), unfolding(language::specs::Read::closed, crate::specs::Steps::step_of))]
+    fn closed(self, version: u16) -> Result<Found, Refusal>
+        ensures { step_is result ≡ term_step (closed (in_version version) self.entry.words.now self.entry.next) }
+    {
+        if !language::is_known(version) {
+            return Err(Fault::WrongVersion.into());
+        }
+        if self.words.is_empty() {
+            return Err(Fault::NoWords.into());
+        }
+        if language::MOST_WORDS < self.words.len() {
+            return Err(Fault::TooManyWords.into());
+        }
+        let table = Table {
+            version: version as u8,
+            words: self.words,
+        };
+        table.term(self.next, Level::top())
+    }
+
+    // The test after the last word: at the reading place no word is left.
+    fn ended(self) -> Result<(), Refusal>
+        ensures { MatchResult result (λ _. length self.entry.words.now ≤ self.entry.next) (λ r. (self.entry.next < length self.entry.words.now) × (r ≡ record { fault = LeftOver; place = self.entry.next })) }
+    {
+        if self.next < self.words.len() {
+            return Err(Fault::LeftOver.at(self.next));
+        }
+        Ok(())
     }
 }
 
-// The test after the last word, at the reading place, of what was read before it.
-fn ended_here<'a>(r: Reader<'a>, step: Step) -> Step
-    ensures { result ≡ ended_at (length r.entry.table.now) r.entry.next step }
+// The rule that a table holds: from its first word on a closed term, and behind that no word.
+#[tactic(auto, using(crate::proofs::Answers::rule_refused, crate::proofs::Answers::rule_left, crate::proofs::Answers::rule_whole))]
+fn rule_of(version: u16, s: &[u16]) -> Result<Found, Refusal>
+    ensures { step_is result ≡ term_step (then (closed (in_version version) s.now 0) (ended s.now)) }
 {
-    ended_at(r.table, r.next, step)
-}
-
-// The rule that a table holds: from its first word on a closed term, and behind that, where the reading place then stands, no word.
-fn rule_of(version: u16, s: &[u16]) -> Step
-    ensures { result ≡ term_step (then (closed (in_version version) s.now 0) (ended s.now)) }
-{
-    let first = start(s);
-    let step = closed_here(version, first);
-    ended_here(moved(first, stands(step)), step)
+    let first = Reader::start(s);
+    let rule = first.closed(version)?;
+    first.moved(rule.to).ended()?;
+    Ok(rule)
 }
 
 // How many words the image of a rule has.
-pub fn measure(version: u16, s: &[u16]) -> Answer
+#[tactic(auto, using(crate::proofs::Answers::m_stop, crate::proofs::Answers::m_words, crate::proofs::Answers::m_fits))]
+pub fn measure(version: u16, s: &[u16]) -> Result<usize, Refusal>
     ensures { reply_of result ≡ measured (read (in_version version) s.now) }
 {
-    match rule_of(version, s) {
-        Step::No(e, p) => Answer::Refusal(e, p),
-        Step::Next(_, _, z) => Answer::Count(z + IMAGE_WORDS),
-    }
+    let rule = rule_of(version, s)?;
+    Ok(rule.words + IMAGE_WORDS)
 }
 
 // Whether the words are a rule: they are where their image can be measured.
-pub fn check(version: u16, s: &[u16]) -> Checked
-    ensures { checked_reply result ≡ checked (read (in_version version) s.now) }
+#[tactic(auto, using(crate::proofs::Answers::c_refused, crate::proofs::Answers::c_accepted))]
+pub fn check(version: u16, s: &[u16]) -> Result<(), Refusal>
+    ensures { reply_of result ≡ checked (read (in_version version) s.now) }
 {
-    match measure(version, s) {
-        Answer::Refusal(e, p) => Checked::Refusal(e, p),
-        Answer::Count(_) => Checked::Success,
-    }
+    measure(version, s)?;
+    Ok(())
 }
