@@ -1,12 +1,14 @@
 -- The kinds of head words: document 01, "Words of a rule". "The permitted kinds and ranges form one constant table, used by every
 -- reader": `kinds` is the code's own table, KINDS, whose rows are of the type that the code declares.
-use Rattle.std.specs.Prelude.{ℕ, ◌/◌, ◌%◌, ◌≤◌, Bool, true, false, cond, ◌&&◌, List, [], ◌∷◌, ltb, leb, get_or, Result, Ok, Err}
+use Rattle.std.specs.Prelude.{ℕ, ◌/◌, ◌%◌, ◌≤◌, ◌≡◌, Bool, true, false, cond, ◌&&◌, List, [], ◌∷◌, ltb, leb, get_or, Result, Ok, Err}
 use Rattle.language.specs.declared.Parts.{Parts}
 use Rattle.language.specs.declared.Parts.TheVariants.{Nothing, Body, FunctionAndArguments, BoundAndBody, CountAndArguments, SubjectAndArms, ArityAndBody, HighAndLow, TwoParts}
 use Rattle.language.specs.declared.Row.{Row}
 use Rattle.language.specs.declared.Stand.{Stand}
 use Rattle.language.specs.declared.Stand.TheVariants.{Nowhere, AtTerm, AtArm}
 use Rattle.language.specs.declared.Fault.{Fault}
+use Rattle.language.specs.declared.Fault.TheVariants.{WrongVersion}
+use Rattle.language.specs.declared.Version.{Version}
 use Rattle.language.specs.Faults.{number_of}
 
 -- document 02, Wish 5: "Raise the limit from 8 to 15 for functions, calls, constructors and arms"
@@ -43,6 +45,10 @@ numbered = 2
 -- whether a version is one of these
 unfoldable pub known : ℕ → Bool
 known v = leb oldest v && leb v newest
+
+-- what the code makes of a version's number: "11 now means neither 1 nor 2"
+abbrev pub Versions : ℕ → Result Version Fault → Type 0
+Versions v r = r ≡ cond (known v) (Ok (record { 0 = v })) (Err WrongVersion)
 
 -- where a head may stand in a rule: nowhere, at a term, at an arm
 abbrev pub nowhere : Stand

@@ -3,7 +3,7 @@
 #![tactic(auto)]
 
 ghost use Rattle.std.specs.Prelude.{◌≡◌};
-ghost use Rattle.language.specs.Kinds.{known, row_of, head_is, head_of};
+ghost use Rattle.language.specs.Kinds.{known, row_of, head_is, head_of, Versions};
 ghost use Rattle.language.specs.Faults.{number_of};
 
 // The most arguments of a function, a call, a constructor or an arm.
@@ -225,6 +225,25 @@ const KINDS: [Row; KINDS_COUNT] = [
     },
 ];
 
+// A version of rules that there is.
+#[derive(Clone, Copy, PartialEq, Eq)]
+pub struct Version(u8);
+
+impl TryFrom<u16> for Version {
+    type Error = Fault;
+
+    ghost try_from_gives = { Versions };
+
+    #[tactic(auto, unfolding(crate::specs::Kinds::known))]
+    fn try_from(number: u16) -> Result<Version, Fault> {
+        if is_known(number) {
+            Ok(Version(number as u8))
+        } else {
+            Err(Fault::WrongVersion)
+        }
+    }
+}
+
 // Whether there is such a version of rules.
 pub fn is_known(version: u16) -> bool
     ensures { result ≡ known version }
@@ -256,18 +275,18 @@ pub fn row_of(w: u16) -> Row
 
 // The row of the word w as a head in a version, where one that stands at q is asked for: its kind is tested first, then its low byte.
 #[tactic(auto, using(crate::proofs::Heads::ways))]
-pub fn look(version: u8, q: Stand, w: u16) -> Result<Row, Fault>
-    ensures { head_is result ≡ head_of version q w }
+pub fn look(version: Version, q: Stand, w: u16) -> Result<Row, Fault>
+    ensures { head_is result ≡ head_of version.0 q w }
 {
     let row = row_of(w);
     let low = (w % LOW_BYTE) as u8;
     if row.stands != q {
         return Err(Fault::WrongKind);
     }
-    if version < row.first {
+    if version.0 < row.first {
         return Err(Fault::WrongKind);
     }
-    if row.last < version {
+    if row.last < version.0 {
         return Err(Fault::WrongKind);
     }
     if low < row.low {
