@@ -4,13 +4,13 @@ use Prim.Native.Nat.{ℕ, suc, ◌+◌, ◌*◌, ◌≤◌, ◌<◌, max}
 use mathlib.Core.Path.{◌≡◌, refl, sym, ap, subst, ◌∙◌}
 use mathlib.Core.List.{List, [], ◌∷◌, ◌++◌}
 use native.Mathlib.Omega.{arith}
-use lib.ListN.{length, length-append, get_or, take}
-use lib.Seq.{length-sets, take-suc}
+use lib.ListN.{length, get_or, take}
+use lib.Seq.{take-suc}
 use Rattle.std.proofs.lemmas.List.{length-take-le}
 use Rattle.language.specs.Kinds.{most_arguments, most_byte}
-use Rattle.language.proofs.Stores.{store_more}
 use Rattle.ticks.specs.Tick.{Closure, Closures, c_nil, c_cons, sizeᶜ}
 use Rattle.output.specs.Stored.{Room, Put}
+use Rattle.output.proofs.Stored.{put_none, put_then, room_left}
 use Rattle.records.specs.Links.{record_words, low, high, links}
 use Rattle.records.specs.Grades.{raised, grade, grades, last, lasts, capped}
 use Rattle.records.specs.Memory.{a_constructor, Val, v_con, Vals, v_nil, v_cons}
@@ -61,15 +61,9 @@ unfolding links
 links_more [] v = refl
 links_more (w ∷ vs) v = ap (λ (l : List ℕ). low w ∷ high w ∷ l) (links_more vs v)
 
-put_then : {a b o o' o'' : List ℕ} {p i end : ℕ} → Put a o p o' i → Put b o' i o'' end → Put (a ++ b) o p o'' end
-put_then {a} {b} {o} {p = p} f g = record {
-  next = omega (arith, f.next, g.next, length-append a b);
-  holds = store_more o p a b f.holds f.next g.holds;
-}
-
 pub p_none : (m : List ℕ) (at : ℕ) → Put (links []) m at m at
 unfolding links
-p_none m at = record { next = omega arith; holds = refl }
+p_none = put_none
 
 pub p_more : (vs : List ℕ) {m₀ m m' : List ℕ} {at next next' i x y : ℕ} → Put (links (take i vs)) m₀ at m next → i < length vs → x ≡ low (get_or vs i 0)
     → y ≡ high (get_or vs i 0) → Put (x ∷ y ∷ []) m next m' next' → Put (links (take (i + 1) vs)) m₀ at m' next'
@@ -79,7 +73,7 @@ p_more vs {i = i} p h e f q = rw (take_more vs i h, links_more (take i vs) (get_
 pub p_room : (vs : List ℕ) {m₀ m : List ℕ} {at next i : ℕ} → Room m₀ at (2 * length vs) → Put (links (take i vs)) m₀ at m next → i < length vs → Room m next 2
 p_room vs {m₀} {at = at} {i = i} r p h =
     let k : length (links (take i vs)) ≡ 2 * i = length_links (take i vs) ∙ ap (λ (n : ℕ). 2 * n) (length-take-le i vs (omega arith)) in
-    record { fits = omega (arith, r.fits, p.next, ap length p.holds, length-sets m₀ at (links (take i vs)), k) }
+    room_left 2 p (omega (arith, r.fits, k))
 
 -- the whole record
 size_vals : {s m : List ℕ} {n : ℕ} {vs : List ℕ} {cs : Closures} → Vals s m n vs cs → sizeᶜ cs ≡ length vs

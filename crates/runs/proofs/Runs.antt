@@ -1,37 +1,18 @@
--- Words written one run after another; the variables that end a chain, one by one; the ends of chains, in the runs in which they are written.
+-- The variables that end a chain, written one by one; and the ends of chains, in the runs in which they are written.
 -- Assumes nothing.
-use Prim.Native.Nat.{ℕ, zero, suc, ◌+◌, ◌-◌, ◌<◌, ◌≤◌}
-use mathlib.Core.Path.{◌≡◌, refl, sym, ap, subst, ◌∙◌}
+use Prim.Native.Nat.{ℕ, zero, suc, ◌+◌, ◌-◌, ◌<◌}
+use mathlib.Core.Path.{◌≡◌, refl, sym, ap, ◌∙◌}
 use mathlib.Core.List.{List, [], ◌∷◌, ◌++◌, append-nil}
 use native.Mathlib.Omega.{arith}
 use native.Mathlib.Numerals.{sub-one}
 use borrow.Author.Rules.{rules}
-use lib.ListN.{length, length-append}
-use lib.Seq.{length-sets}
 use Rattle.language.specs.Term.{images, Term, kvar, con, op, size}
 use Rattle.language.specs.Words.{head, words, wordsᵗ}
 use Rattle.language.specs.Image.{to, downto, calling, making, working}
 use Rattle.language.proofs.Forms.{size_downto}
-use Rattle.language.proofs.Stores.{store_more}
-use Rattle.output.specs.Stored.{Room, Put, HasRoom, Writes}
+use Rattle.output.specs.Stored.{Put, HasRoom, Writes}
 use Rattle.output.specs.declared.Output.{Output}
-
-pub put_none : (o : List ℕ) (p : ℕ) → Put [] o p o p
-put_none o p = record { next = omega arith; holds = refl }
-
--- one run written after another
-pub put_then : {a b o o' o'' : List ℕ} {p i end : ℕ} → Put a o p o' i → Put b o' i o'' end → Put (a ++ b) o p o'' end
-put_then {a} {b} {o} {p = p} f g = record {
-  next = omega (arith, f.next, g.next, length-append a b);
-  holds = store_more o p a b f.holds f.next g.holds;
-}
-
--- the room that is left behind a run
-pub room_left : {a o o' : List ℕ} {p i : ℕ} (n : ℕ) → Put a o p o' i → p + length a + n ≤ length o → Room o' i n
-room_left {a} {o} {p = p} n f h = record { fits = omega (arith, h, f.next, ap length f.holds, length-sets o p a) }
-
-pub put_as : {a b o o' : List ℕ} {p end : ℕ} → a ≡ b → Put b o p o' end → Put a o p o' end
-put_as {o = o} {o'} {p} {end} e f = subst (λ (l : List ℕ). Put l o p o' end) (sym e) f
+use Rattle.output.proofs.Stored.{put_none, put_then, room_left, put_as}
 
 -- "k_(n-1) down to k_0", and the ends of chains
 downs_none : (n : ℕ) → n ≡ 0 → wordsᵗ images (downto n) ≡ []

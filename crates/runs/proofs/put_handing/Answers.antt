@@ -1,6 +1,6 @@
 -- `runs::put_handing` meets its contract: three runs, one behind the other.
 use Rattle.std.proofs.Common.{arith}
-use Rattle.runs.proofs.Runs.{put_then, room_left}
+use Rattle.output.proofs.Stored.{put_then, room_left}
 use Rattle.runs.proofs.put_handing.Goals as goal
 
 pub put_down-requires : goal.put_down-requires
