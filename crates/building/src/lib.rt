@@ -96,13 +96,13 @@ fn summed(records: &[u32], values: &[usize]) -> Told
 
 // A reference to each argument.
 #[tactic(auto, using(crate::proofs::Ways::p_room))]
-fn put_arguments(record: &mut Output<'_, u32>, values: &[usize])
-    requires { HasRoom record.old (2 * length values.now) }
-    ensures same_reference { record.new.words.ghost_name ≡ record.old.words.ghost_name }
-    ensures put { Writes (links values.now) record.old record.new }
+fn put_arguments(out: &mut Output<'_, u32>, values: &[usize])
+    requires { HasRoom out.old (2 * length values.now) }
+    ensures same_reference { out.new.words.ghost_name ≡ out.old.words.ghost_name }
+    ensures put { Writes (links values.now) out.old out.new }
 {
     for value in values {
-        record.put_all(&[records::low(*value), records::high(*value)]);
+        out.put_all(&[records::low(*value), records::high(*value)]);
     }
 }
 

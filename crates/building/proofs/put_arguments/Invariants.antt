@@ -5,4 +5,4 @@ use Rattle.records.specs.Links.{links}
 use Rattle.building.proofs.put_arguments.Given as goal
 
 abbrev pub invariant-loop-value : goal.invariant-loop-value
-invariant-loop-value l = (l.record.words.ghost_name ≡ l.fn.record.words.ghost_name) × Writes (links (take l.value-index l.values)) l.fn.record l.record
+invariant-loop-value l = (l.out.words.ghost_name ≡ l.fn.out.words.ghost_name) × Writes (links (take l.value-index l.values)) l.fn.out l.out
