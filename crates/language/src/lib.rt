@@ -6,6 +6,8 @@ ghost use Rattle.std.specs.Prelude.{◌≡◌};
 ghost use Rattle.language.specs.Kinds.{known, row_of, head_is, head_of, Versions};
 ghost use Rattle.language.specs.Faults.{number_of};
 
+use std::fmt;
+
 // The most arguments of a function, a call, a constructor or an arm.
 pub const MOST_ARGUMENTS: u8 = 15;
 
@@ -88,6 +90,14 @@ impl Fault {
 pub struct Refusal {
     pub fault: Fault,
     pub place: usize,
+}
+
+// As it is printed: the number, and the place after it.
+impl fmt::Display for Refusal {
+    fn fmt<W: fmt::Write>(&self, f: &mut fmt::Formatter<W>) -> fmt::Result {
+        let (number, place) = (self.fault.number(), self.place);
+        write!(f, "{number} {place}")
+    }
 }
 
 // A refusal that tests no word is at this place.
