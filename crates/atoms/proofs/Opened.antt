@@ -15,7 +15,7 @@ use Rattle.language.specs.declared.Parts.TheVariants.{Nothing, Body, FunctionAnd
 use Rattle.language.specs.declared.Row.{Row}
 use Rattle.language.proofs.Heads.{of_kind}
 use Rattle.language.proofs.Places.{first_word}
-use Rattle.atoms.specs.Standing.{form_at, Parted}
+use Rattle.atoms.specs.Standing.{form_at}
 
 -- a term within the ranges of a rule, by what follows its head
 pub data Opened : Parts → Term → Type 0 where
@@ -47,5 +47,5 @@ looked (r_num h) k = by_kind 10 0 (first_word k) (omega arith) o_num
 looked (r_op {o} h e rs) k = by_kind 11 o (first_word k) (omega arith) (o_op h e rs)
 
 -- the term that stands where P follows the head is one of those that have P
-pub opened : {t : Term} {s : List ℕ} {at to d : ℕ} {P : Parts} → Ranged rules t → Held s (words rules t) at to → Parted P d s at → Opened P t
-opened {t} r k H = subst (λ (Q : Parts). Opened Q t) H.is (looked r k)
+pub opened : {t : Term} {s : List ℕ} {at to : ℕ} {P : Parts} → Ranged rules t → Held s (words rules t) at to → form_at s at ≡ P → Opened P t
+opened {t} r k e = subst (λ (Q : Parts). Opened Q t) e (looked r k)

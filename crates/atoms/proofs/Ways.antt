@@ -4,6 +4,7 @@
 use Prim.Native.Nat.{ℕ, ◌+◌, ◌-◌, ◌≤◌, ◌<◌}
 use mathlib.Core.Path.{◌≡◌, sym, ap, subst, ◌∙◌}
 use mathlib.Core.List.{List}
+use Rattle.std.specs.Prelude.{Option}
 use native.Mathlib.Omega.{arith}
 use borrow.Author.Rules.{rules}
 use borrow.Author.Tests.{lt-ltb, le-ltb}
@@ -12,11 +13,10 @@ use Rattle.language.specs.Kinds.{row_of}
 use Rattle.language.specs.declared.Parts.{Parts}
 use Rattle.language.specs.declared.Parts.TheVariants.{Nothing, Body, FunctionAndArguments, BoundAndBody, CountAndArguments, SubjectAndArms, ArityAndBody, HighAndLow, TwoParts}
 use Rattle.language.specs.declared.Row.{Row}
-use Rattle.atoms.specs.Standing.{term, Stands, form_at, Parted, Counted}
-use Rattle.atoms.specs.Openings.{head_words, pieces_at, opening_at, Whole, OpensAt, tested, rest_after}
+use Rattle.atoms.specs.Standing.{term, Stands, TermAt, form_at, Parted, FormAt, Counted}
+use Rattle.atoms.specs.Openings.{head_words, pieces_at, opening_at, Whole, OpensAt, left, tested, rest_after}
 use Rattle.atoms.specs.declared.Opening.{Opening}
 use Rattle.atoms.specs.declared.Rest.{Rest}
-use Rattle.atoms.specs.declared.Rest.TheVariants.{Left}
 use Rattle.atoms.proofs.Opened.{opened}
 use Rattle.atoms.proofs.Standing.{term_inside, term_deep, count_there}
 
@@ -25,17 +25,17 @@ form_is : (s : List ℕ) (at : ℕ) {r : Row} → r ≡ row_of (get_or s at 0) �
 unfolding form_at
 form_is s at h = ap (λ (x : Row). x.parts) (sym h)
 
-module _ {s : List ℕ} {at d : ℕ} where
+module _ {s : List ℕ} {at : ℕ} where
   -- what follows a head, by the test on it
-  pub parted : {P Q : Parts} → Parted P d s at → P ≡ Q → Parted Q d s at
-  parted k e = record { is = k.is ∙ e; inside = k.inside; deep = k.deep }
+  pub parted : {d : ℕ} {P Q : Parts} → FormAt P s at → P ≡ Q → Stands (term d) s at → Parted Q d s at
+  parted f e x = let k = f.each _ x in record { is = k.is ∙ e; inside = k.inside; deep = k.deep }
 
   -- the head of a term, whose row the code has found
-  pub parts_found : {r : Row} → Stands (term d) s at → r ≡ row_of (get_or s at 0) → Parted r.parts d s at
-  parts_found k e = record { is = form_is s at e; inside = term_inside k; deep = term_deep k }
+  pub parts_found : {r : Row} → TermAt s at → r ≡ row_of (get_or s at 0) → FormAt r.parts s at
+  parts_found k e = record { each = λ d x. record { is = form_is s at e; inside = term_inside k; deep = term_deep x } }
 
-  pub counted : Stands (term d) s at → Parted CountAndArguments d s at → Counted (get_or s (at + 1) 0) s at
-  counted k H = count_there (opened k.seen.good.0 k.seen.held H) k.seen
+  pub counted : TermAt s at → form_at s at ≡ CountAndArguments → Counted (get_or s (at + 1) 0) s at
+  counted k e = count_there (opened k.stands.seen.good.0 k.stands.seen.held e) k.stands.seen
 
 -- what a head opens, by its form
 a_word : (P : Parts) → 1 ≤ head_words P
@@ -74,8 +74,8 @@ module _ {s : List ℕ} {at : ℕ} (l : Whole (form_at s at) s at) {r : Row} (h 
   opened_there a b = record { is = simp (a, b, form_is s at h); some = omega (arith, a_word r.parts); inside = omega (arith, form_whole.inside) }
 
 -- what is left after it, by the tests of the code
-module _ (o : Opening) (i n : ℕ) {x : Rest} where
-  pub passed_over : 0 < i → x ≡ Left (i - 1 + o.pieces) n → x ≡ rest_after o i n
+module _ (o : Opening) (i n : ℕ) {x : Option Rest} where
+  pub passed_over : 0 < i → x ≡ left (i - 1 + o.pieces) n → x ≡ rest_after o i n
   unfolding rest_after
   passed_over l e = simp (lt-ltb 0 i l, e)
 
@@ -85,4 +85,4 @@ module _ (o : Opening) (i n : ℕ) {x : Rest} where
 
 pub ruleset openings = (words_by, head_inside, second_inside, pieces_by, form_whole, opened_there, passed_over, tested_there, rules)
 
-pub ruleset ways = (parted, term_inside, parts_found, counted, rules)
+pub ruleset ways = (term_inside, parts_found, counted, rules)

@@ -1,12 +1,11 @@
 -- What the pass over a term's words does at one head: what the head opens, and what is left of the pass after it.
-use Rattle.std.specs.Prelude.{ℕ, ◌+◌, ◌-◌, ◌%◌, ◌≤◌, ◌<◌, ◌≡◌, cond, List, ltb, length, get_or}
+use Rattle.std.specs.Prelude.{ℕ, ◌+◌, ◌-◌, ◌%◌, ◌≤◌, ◌<◌, ◌≡◌, cond, List, ltb, length, get_or, Option, Some, None}
 use Rattle.language.specs.Kinds.{operands}
 use Rattle.language.specs.declared.Parts.{Parts}
 use Rattle.language.specs.declared.Parts.TheVariants.{Nothing, Body, FunctionAndArguments, BoundAndBody, CountAndArguments, SubjectAndArms, ArityAndBody, HighAndLow, TwoParts}
 use Rattle.atoms.specs.Standing.{form_at}
 use Rattle.atoms.specs.declared.Opening.{Opening}
 use Rattle.atoms.specs.declared.Rest.{Rest}
-use Rattle.atoms.specs.declared.Rest.TheVariants.{Left, NoAtom}
 
 -- the words of a head of the form P: a constructor's and an arm's have a count, and a number stands "in the next two words" (document 02, Wish 13)
 unfoldable pub head_words : Parts → ℕ
@@ -53,24 +52,28 @@ pub record OpensAt (o : Opening) (s : List ℕ) (at : ℕ) : Type 0 where
   pub some : 0 < o.words
   pub inside : at + o.words ≤ length s
 
+-- i pieces to be passed over, and then n terms that must be atoms, are left
+abbrev pub left : ℕ → ℕ → Option Rest
+left i n = Some (record { pieces = i; terms = n })
+
 -- What is left after a head of the form P with p pieces, where it is the head of the first of n terms that must be atoms. "An atom is a
 -- variable, a function, a recursive function, or a constructor whose arguments are all atoms." Document 02, Wish 13: "A number is an atom. An
 -- operation never is".
-unfoldable pub tested : Parts → ℕ → ℕ → Rest
-tested Nothing p n = Left 0 (n - 1)
-tested Body p n = Left p (n - 1)
-tested FunctionAndArguments p n = NoAtom
-tested BoundAndBody p n = NoAtom
-tested CountAndArguments p n = Left 0 (n - 1 + p)
-tested SubjectAndArms p n = NoAtom
-tested ArityAndBody p n = NoAtom
-tested HighAndLow p n = Left 0 (n - 1)
-tested TwoParts p n = NoAtom
+unfoldable pub tested : Parts → ℕ → ℕ → Option Rest
+tested Nothing p n = left 0 (n - 1)
+tested Body p n = left p (n - 1)
+tested FunctionAndArguments p n = None
+tested BoundAndBody p n = None
+tested CountAndArguments p n = left 0 (n - 1 + p)
+tested SubjectAndArms p n = None
+tested ArityAndBody p n = None
+tested HighAndLow p n = left 0 (n - 1)
+tested TwoParts p n = None
 
 -- the same where i pieces, which stand in a function's body, are to be passed over before these terms
-unfoldable pub rest_after : Opening → ℕ → ℕ → Rest
+unfoldable pub rest_after : Opening → ℕ → ℕ → Option Rest
 unfolding tested
-rest_after o i n = cond (ltb 0 i) (Left (i - 1 + o.pieces) n) (tested o.parts o.pieces n)
+rest_after o i n = cond (ltb 0 i) (left (i - 1 + o.pieces) n) (tested o.parts o.pieces n)
 
 -- counts up to here, and one word's number more, are added without wrapping
 abbrev pub most_counted : ℕ

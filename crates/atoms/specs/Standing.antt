@@ -60,6 +60,11 @@ pub record Stands (P : Part) (s : List ℕ) (at : ℕ) : Type 0 where
   pub to : ℕ
   pub seen : Seen P s at to thing
 
+-- a term of however many levels stands in s at `at`
+pub record TermAt (s : List ℕ) (at : ℕ) : Type 0 where
+  pub levels : ℕ
+  pub stands : Stands (term levels) s at
+
 -- each good part P that stands in s at `at` ends at `to`
 pub record Ends (P : Part) (s : List ℕ) (at to : ℕ) : Type 0 where
   pub end : (x : Thing P) (e : ℕ) → Seen P s at e x → to ≡ e
@@ -67,6 +72,10 @@ pub record Ends (P : Part) (s : List ℕ) (at to : ℕ) : Type 0 where
 -- b tells whether a term of at most d levels that stands in s at `at` is an atom
 pub record AtomAt (d : ℕ) (s : List ℕ) (at : ℕ) (b : Bool) : Type 0 where
   pub is : (t : Term) (to : ℕ) → Seen (term d) s at to t → b ≡ atom t
+
+-- the same of the term that stands there, of however many levels it is
+pub record IsAtom (b : Bool) (s : List ℕ) (at : ℕ) : Type 0 where
+  pub each : (d : ℕ) → AtomAt d s at b
 
 -- what follows the head at `at`, by the row of its kind: one table serves every version, and a rule that was accepted has heads of its version alone
 unfoldable pub form_at : List ℕ → ℕ → Parts
@@ -78,6 +87,10 @@ pub record Parted (P : Parts) (d : ℕ) (s : List ℕ) (at : ℕ) : Type 0 where
   pub is : form_at s at ≡ P
   pub inside : at < length s
   pub deep : 1 ≤ d
+
+-- P is what follows the head of the term that stands in s at `at`, of however many levels it is
+pub record FormAt (P : Parts) (s : List ℕ) (at : ℕ) : Type 0 where
+  pub each : (d : ℕ) → Stands (term d) s at → Parted P d s at
 
 -- n is the second word of what stands in s at `at`
 pub record Counted (n : ℕ) (s : List ℕ) (at : ℕ) : Type 0 where

@@ -4,7 +4,7 @@
 
 ghost use Rattle.language.specs.declared.Parts.TheVariants.{CountAndArguments};
 ghost use Rattle.std.specs.Prelude.{◌≡◌};
-ghost use Rattle.atoms.specs.Standing.{term, Stands, AtomAt, form_at, Parted, Counted};
+ghost use Rattle.atoms.specs.Standing.{TermAt, IsAtom, form_at, FormAt, Counted};
 ghost use Rattle.atoms.specs.Openings.{head_words, pieces_at, Whole, OpensAt, Countable, rest_after};
 
 use language::Parts;
@@ -17,19 +17,18 @@ pub const HEAD_AND_COUNT: usize = 2;
 
 pub const HEAD_AND_NUMBER: usize = 3;
 
-// What follows the head of the term at `at`, which has at most `depth` levels. What stands here was accepted: the kind alone tells it, in every
-// version.
-pub fn parts_at(s: &[u16], at: usize, depth: usize) -> Parts
-    requires { Stands (term depth) s.now at }
-    ensures { Parted result depth s.now at }
+// What follows the head of the term at `at`. What stands here was accepted: the kind alone tells it, in every version.
+pub fn parts_at(s: &[u16], at: usize) -> Parts
+    requires { TermAt s.now at }
+    ensures { FormAt result s.now at }
 {
-    let row = language::row_of(s[at]);
-    row.parts
+    language::row_of(s[at]).parts
 }
 
 // How many arguments the constructor at `at` has.
-pub fn count_at(s: &[u16], at: usize, depth: usize) -> usize
-    requires { Stands (term depth) s.now at × Parted CountAndArguments depth s.now at }
+pub fn count_at(s: &[u16], at: usize) -> usize
+    requires stands { TermAt s.now at }
+    requires constructor { form_at s.now at ≡ CountAndArguments }
     ensures { Counted result s.now at }
 {
     s[at + 1] as usize
@@ -41,13 +40,6 @@ pub struct Opening {
     pub parts: Parts,
     pub words: usize,
     pub pieces: u16,
-}
-
-// What is left of a test after a head: so many pieces to be passed over, and then so many terms that must be atoms; or that one is none.
-#[derive(Clone, Copy)]
-enum Rest {
-    Left(usize, usize),
-    NoAtom,
 }
 
 // The words of a head of this form: a constructor's and an arm's have a count, a number's has the number.
@@ -93,60 +85,71 @@ pub fn opening_at(s: &[u16], at: usize) -> Opening
     requires { Whole (form_at s.now at) s.now at }
     ensures { OpensAt result s.now at }
 {
-    let row = language::row_of(s[at]);
-    let parts = row.parts;
-    let words = head_words(parts);
-    let pieces = pieces_at(s, at, parts);
+    let parts = language::row_of(s[at]).parts;
     Opening {
         parts,
-        words,
-        pieces,
+        words: head_words(parts),
+        pieces: pieces_at(s, at, parts),
     }
 }
 
-// What is left after a head, where `inside` pieces were to be passed over and then `atoms` terms to be tested. A function is an
-// atom whatever its body is: the body is passed over.
-#[tactic(auto, using(crate::proofs::Ways::openings), unfolding(crate::specs::Openings::tested))]
-fn rest_after(head: Opening, inside: usize, atoms: usize) -> Rest
-    requires { Countable inside atoms }
-    ensures { result ≡ rest_after head inside atoms }
-{
-    let parts = head.parts;
-    let pieces = head.pieces as usize;
-    if 0 < inside {
-        return Rest::Left(inside - 1 + pieces, atoms);
-    }
-    match parts {
-        Parts::Nothing => Rest::Left(0, atoms - 1),
-        Parts::Body => Rest::Left(pieces, atoms - 1),
-        Parts::FunctionAndArguments => Rest::NoAtom,
-        Parts::BoundAndBody => Rest::NoAtom,
-        Parts::CountAndArguments => Rest::Left(0, atoms - 1 + pieces),
-        Parts::SubjectAndArms => Rest::NoAtom,
-        Parts::ArityAndBody => Rest::NoAtom,
-        Parts::HighAndLow => Rest::Left(0, atoms - 1),
-        Parts::TwoParts => Rest::NoAtom,
+// What is left of a test: so many pieces to be passed over, and then so many terms that must be atoms.
+#[derive(Clone, Copy)]
+struct Rest {
+    pieces: usize,
+    terms: usize,
+}
+
+impl Rest {
+    // What is left after a head; nothing where it is that of a term which is no atom. A function is an atom whatever its body is: the body is
+    // passed over.
+    #[tactic(auto, using(crate::proofs::Ways::openings), unfolding(crate::specs::Openings::tested))]
+    fn after(self, head: Opening) -> Option<Rest>
+        requires { Countable self.pieces self.terms }
+        ensures { result ≡ rest_after head self.pieces self.terms }
+    {
+        let pieces = head.pieces as usize;
+        if 0 < self.pieces {
+            return Some(Rest {
+                pieces: self.pieces - 1 + pieces,
+                terms: self.terms,
+            });
+        }
+        let terms = self.terms - 1;
+        match head.parts {
+            Parts::Nothing => Some(Rest { pieces: 0, terms }),
+            Parts::Body => Some(Rest { pieces, terms }),
+            Parts::FunctionAndArguments => None,
+            Parts::BoundAndBody => None,
+            Parts::CountAndArguments => Some(Rest {
+                pieces: 0,
+                terms: terms + pieces,
+            }),
+            Parts::SubjectAndArms => None,
+            Parts::ArityAndBody => None,
+            Parts::HighAndLow => Some(Rest { pieces: 0, terms }),
+            Parts::TwoParts => None,
+        }
     }
 }
 
 // Whether the term at `at` is an atom: one pass over its words, up to the first part that is no atom.
-pub fn is_atom(s: &[u16], at: usize, depth: usize) -> bool
-    requires { Stands (term depth) s.now at }
-    ensures { AtomAt depth s.now at result }
+pub fn is_atom(s: &[u16], at: usize) -> bool
+    requires { TermAt s.now at }
+    ensures { IsAtom result s.now at }
 {
     let mut next = at;
-    let mut inside = 0;
-    let mut atoms_left = 1;
+    let mut rest = Rest {
+        pieces: 0,
+        terms: 1,
+    };
     // The label names the loop for the proof, whatever its test says.
-    'tests: while 0 < atoms_left {
+    'tests: while 0 < rest.terms {
         let head = opening_at(s, next);
-        match rest_after(head, inside, atoms_left) {
-            Rest::NoAtom => return false,
-            Rest::Left(pieces, terms) => {
-                inside = pieces;
-                atoms_left = terms;
-            }
-        }
+        let Some(left) = rest.after(head) else {
+            return false;
+        };
+        rest = left;
         next += head.words;
     }
     true

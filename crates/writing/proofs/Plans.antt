@@ -3,7 +3,7 @@
 -- Assumes nothing.
 use Prim.Native.Nat.{ℕ, ◌+◌, ◌-◌, ◌%◌}
 use mathlib.Core.Path.{◌≡◌, refl, sym, ap, ap₂, ◌∙◌}
-use mathlib.Core.Bool.{true, false, false≢true, and-eq-true_iff}
+use mathlib.Core.Bool.{true, false, and-eq-true_iff}
 use mathlib.Core.List.{List, [], ◌∷◌, ◌++◌, append_assoc, append-nil}
 use native.Mathlib.Omega.{arith}
 use lib.ListN.{get_or}
@@ -13,15 +13,13 @@ use Rattle.language.specs.Words.{head, words, wordsᵗ, wordsᵃ}
 use Rattle.language.specs.Run.{atom, atoms}
 use Rattle.language.specs.Image.{lam, passing, carried, carrieds, chain, passingᵃ, calling, making, working}
 use Rattle.language.specs.Limits.{Rangedᵗ, Rangedᵃ, r_nil, r_cons, r_none, r_arm}
-use Rattle.language.specs.declared.Parts.{Parts}
-use Rattle.language.specs.declared.Parts.TheVariants.{Nothing, Body, FunctionAndArguments, BoundAndBody, CountAndArguments, SubjectAndArms, ArityAndBody, HighAndLow, TwoParts}
+use Rattle.language.specs.declared.Parts.TheVariants.{Nothing, Body, FunctionAndArguments, BoundAndBody, CountAndArguments, SubjectAndArms, HighAndLow, TwoParts}
 use Rattle.language.proofs.Forms.{passing_atom, passing_build, size_carrieds, size_passingᵃ}
 use Rattle.language.proofs.Places.{first_word, next_words}
 use Rattle.atoms.specs.Standing.{term, terms, arms, atomic, atomics, Seen, AtomAt, Parted}
 use Rattle.atoms.proofs.Opened.{Opened, o_var, o_fun, o_call, o_bind, o_con, o_cases, o_num, o_op, opened}
-use Rattle.atoms.proofs.Standing.{open_var, open_fun, open_call, open_bind, open_con, open_cases, open_num, open_op, open_nil, open_cons, open_none, open_arm, no_arm}
-use Rattle.atoms.proofs.Tests.{Settles, settled}
-use Rattle.writing.specs.Jobs.{Job, passed, kept, keeps, chained, branches, before, after, skipped, ◌next◌, linked, handed, links}
+use Rattle.atoms.proofs.Standing.{open_var, open_fun, open_call, open_bind, open_con, open_cases, open_num, open_op, open_nil, open_cons, open_none, open_arm}
+use Rattle.writing.specs.Jobs.{Job, passed, kept, keeps, chained, branches, before, after, skipped, copied, ◌next◌, linked, handed, links}
 use Rattle.writing.proofs.Jobs.{As, Plan}
 
 -- "A chain is, for each of its terms in order, 0201 0401 and the term's passing form; then 0201 and the ending."
@@ -72,10 +70,9 @@ fun_words : (o a : ℕ) (b : Term) {w : ℕ} → w ≡ head (2 + o) (a + 0)
 unfolding words carried
 fun_words o a b e = ap (λ (w : ℕ). w ∷ 0x0401 ∷ (words images (passing b) ++ (head 9 0 ∷ []))) (omega arith)
 
-con_words : (t : ℕ) (ps : Terms) {w n : ℕ} → w ≡ head 6 t → n ≡ size ps
-    → words images (carried (con t ps)) ≡ (w ∷ n ∷ []) ++ wordsᵗ images (carrieds ps)
+con_words : (t : ℕ) (ps : Terms) → words images (carried (con t ps)) ≡ (head 6 t ∷ size ps ∷ []) ++ wordsᵗ images (carrieds ps)
 unfolding words carried
-con_words t ps e q = let z = size_carrieds ps in cc
+con_words t ps = let z = size_carrieds ps in cc
 
 -- an atom among the terms
 pub loosened : {s : List ℕ} {at to d : ℕ} {t : Term} → Seen (atomic d) s at to t → Seen (term d) s at to t
@@ -128,13 +125,9 @@ module _ {s : List ℕ} {at to d : ℕ} where
   as_var (o_var {i} h) k = let y = open_var (o_var h) (loosened k) in
       record { thing = y.thing; seen = y.seen; same = ap (λ (j : ℕ). head 1 j ∷ []) (omega (arith, first_word k.held)) }
 
-  as_number : {t : Term} → Opened HighAndLow t → Seen (atomic d) s at to t
-      → As (kept d) (after (after (skipped 3) (get_or s at 0 ∷ [])) (get_or s (at + 1) 0 ∷ get_or s (at + 2) 0 ∷ [])) s at to t
+  as_number : {t : Term} → Opened HighAndLow t → Seen (atomic d) s at to t → As (kept d) (copied 3) s at to t
   unfolding words carried open_num
-  as_number o_num k =
-      let y = open_num o_num (loosened k) in let k' = next_words k.held in
-      let e = first_word k.held in let q = first_word k' in let r = first_word (next_words k') in let z : at + 1 + 1 ≡ at + 2 = omega arith in
-      record { thing = y.thing; seen = y.seen; same = cc }
+  as_number o_num k = let y = open_num o_num (loosened k) in record { thing = y.thing; seen = y.seen; same = refl }
 
   as_function : {t : Term} → Opened Body t → Seen (atomic d) s at to t
       → As (kept d) (skipped 1 next before ((get_or s at 0 + 1) ∷ []) (handed (d - 1) (head 9 0))) s at to t
@@ -143,7 +136,7 @@ module _ {s : List ℕ} {at to d : ℕ} where
       record { thing = y.thing; seen = y.seen; same = fun_words o a b (first_word k.held) }
 
   as_constructor : {t : Term} {n : ℕ} → n ≡ get_or s (at + 1) 0 → Opened CountAndArguments t → Seen (atomic d) s at to t
-      → As (kept d) (skipped 2 next before (get_or s at 0 ∷ get_or s (at + 1) 0 ∷ []) (keeps (d - 1) n)) s at to t
+      → As (kept d) (copied 2 next keeps (d - 1) n) s at to t
   unfolding words atom open_con
   as_constructor e (o_con {t} {ps} h l rs) k = let y = open_con e (o_con h l rs) (loosened k) in record {
     thing = y.thing;
@@ -151,7 +144,7 @@ module _ {s : List ℕ} {at to d : ℕ} where
       good = (y.seen.good.0, (y.seen.good.1.0, y.seen.good.1.1, y.seen.good.1.2, k.good.2));
       held = y.seen.held;
     };
-    same = con_words t ps (first_word k.held) (first_word (next_words k.held));
+    same = con_words t ps;
   }
 
   -- n things, where n is 0 and where it is not
@@ -191,12 +184,10 @@ module _ {s : List ℕ} {at to d : ℕ} where
     no_arms z (r_arm h l r rs) k = absurd (omega (arith, k.good.2))
 
     more_arms : {ps : Arms} → (n ≡ 0 → ⊥) → Rangedᵃ rules ps → Seen (arms d n) s at to ps
-        → As (branches d n) (skipped 2 next before (get_or s at 0 ∷ get_or s (at + 1) 0 ∷ []) (handed d (head 9 1) next branches d (n - 1))) s at to ps
+        → As (branches d n) (copied 2 next handed d (head 9 1) next branches d (n - 1)) s at to ps
     unfolding words passingᵃ open_arm
     more_arms z r_none k = absurd (z (sym k.good.2))
-    more_arms z (r_arm {t} {n = m} {b} {ps} h l r rs) k =
-        let y = open_arm z (r_arm h l r rs) k in let e = first_word k.held in let q = first_word (next_words k.held) in
-        record { thing = y.thing; seen = y.seen; same = cc }
+    more_arms z (r_arm {t} {n = m} {b} {ps} h l r rs) k = let y = open_arm z (r_arm h l r rs) k in record { thing = y.thing; seen = y.seen; same = refl }
 
 -- the plan of each writer, by what the code has tested
 module _ {s : List ℕ} {at d : ℕ} where
@@ -207,37 +198,36 @@ module _ {s : List ℕ} {at d : ℕ} where
         record { thing = t; seen = record { good = (k.good.0, k.good.1, a); held = k.held }; same = atom_words t a };
   }
 
-  pub plan_call : Parted FunctionAndArguments d s at → Plan (passed d) (chaining d 1 (get_or s at 0 % 256 + 1) (calling (get_or s at 0 % 256))) s at
-  plan_call H = record { plan = λ t to k. as_call (opened k.good.0 k.held H) k }
+  pub plan_call : {a : ℕ} → Parted FunctionAndArguments d s at → a ≡ get_or s at 0 % 256 → Plan (passed d) (chaining d 1 (a + 1) (calling a)) s at
+  plan_call H e = rw e record { plan = λ t to k. as_call (opened k.good.0 k.held H.is) k }
 
   pub plan_let : Parted BoundAndBody d s at
       → Plan (passed d) (skipped 1 next linked (d - 1) next before (0x0201 ∷ 0x0500 ∷ head 9 0 ∷ []) (handed (d - 1) (head 9 1))) s at
-  plan_let H = record { plan = λ t to k. as_let (opened k.good.0 k.held H) k }
+  plan_let H = record { plan = λ t to k. as_let (opened k.good.0 k.held H.is) k }
 
-  pub plan_build : {n : ℕ} → Parted CountAndArguments d s at → n ≡ get_or s (at + 1) 0 → AtomAt d s at false
-      → Plan (passed d) (chaining d 2 n (making (get_or s at 0 % 256) n)) s at
-  plan_build H e A = record { plan = λ t to k. as_build e (sym (A.is t to k)) (opened k.good.0 k.held H) k }
+  pub plan_build : {a n : ℕ} → Parted CountAndArguments d s at → n ≡ get_or s (at + 1) 0 → AtomAt d s at false → a ≡ get_or s at 0 % 256
+      → Plan (passed d) (chaining d 2 n (making a n)) s at
+  plan_build H e A q = rw q record { plan = λ t to k. as_build e (sym (A.is t to k)) (opened k.good.0 k.held H.is) k }
 
-  pub plan_operation : Parted TwoParts d s at → Plan (passed d) (chaining d 1 operands (working (get_or s at 0 % 256) operands)) s at
-  plan_operation H = record { plan = λ t to k. as_operation (opened k.good.0 k.held H) k }
+  pub plan_operation : {a : ℕ} → Parted TwoParts d s at → a ≡ get_or s at 0 % 256 → Plan (passed d) (chaining d 1 operands (working a operands)) s at
+  plan_operation H e = rw e record { plan = λ t to k. as_operation (opened k.good.0 k.held H.is) k }
 
   pub plan_match : Parted SubjectAndArms d s at
       → Plan (passed d) (skipped 1 next linked (d - 1) next before (0x0201 ∷ get_or s at 0 ∷ head 9 0 ∷ []) (branches (d - 1) (get_or s at 0 % 256))) s at
-  plan_match H = record { plan = λ t to k. as_match (opened k.good.0 k.held H) k }
+  plan_match H = record { plan = λ t to k. as_match (opened k.good.0 k.held H.is) k }
 
   pub plan_var : Parted Nothing d s at → Plan (kept d) (after (skipped 1) (head 1 (get_or s at 0 % 256) ∷ [])) s at
-  plan_var H = record { plan = λ t to k. as_var (opened k.good.0 k.held H) k }
+  plan_var H = record { plan = λ t to k. as_var (opened k.good.0 k.held H.is) k }
 
-  pub plan_number : Parted HighAndLow d s at
-      → Plan (kept d) (after (after (skipped 3) (get_or s at 0 ∷ [])) (get_or s (at + 1) 0 ∷ get_or s (at + 2) 0 ∷ [])) s at
-  plan_number H = record { plan = λ t to k. as_number (opened k.good.0 k.held H) k }
+  pub plan_number : Parted HighAndLow d s at → Plan (kept d) (copied 3) s at
+  plan_number H = record { plan = λ t to k. as_number (opened k.good.0 k.held H.is) k }
 
   pub plan_function : Parted Body d s at → Plan (kept d) (skipped 1 next before ((get_or s at 0 + 1) ∷ []) (handed (d - 1) (head 9 0))) s at
-  plan_function H = record { plan = λ t to k. as_function (opened k.good.0 k.held H) k }
+  plan_function H = record { plan = λ t to k. as_function (opened k.good.0 k.held H.is) k }
 
   pub plan_constructor : {n : ℕ} → Parted CountAndArguments d s at → n ≡ get_or s (at + 1) 0
-      → Plan (kept d) (skipped 2 next before (get_or s at 0 ∷ get_or s (at + 1) 0 ∷ []) (keeps (d - 1) n)) s at
-  plan_constructor H e = record { plan = λ t to k. as_constructor e (opened k.good.0 k.held H) k }
+      → Plan (kept d) (copied 2 next keeps (d - 1) n) s at
+  plan_constructor H e = record { plan = λ t to k. as_constructor e (opened k.good.0 k.held H.is) k }
 
   module _ {n : ℕ} where
     pub plan_no_links : n ≡ 0 → Plan (chained d n) (skipped 0) s at
@@ -255,13 +245,5 @@ module _ {s : List ℕ} {at d : ℕ} where
     pub plan_no_arms : n ≡ 0 → Plan (branches d n) (skipped 0) s at
     plan_no_arms z = record { plan = λ ps to k. no_arms z k.good.0 k }
 
-    pub plan_arms : (n ≡ 0 → ⊥)
-        → Plan (branches d n) (skipped 2 next before (get_or s at 0 ∷ get_or s (at + 1) 0 ∷ []) (handed d (head 9 1) next branches d (n - 1))) s at
+    pub plan_arms : (n ≡ 0 → ⊥) → Plan (branches d n) (copied 2 next handed d (head 9 1) next branches d (n - 1)) s at
     plan_arms z = record { plan = λ ps to k. more_arms z k.good.0 k }
-
-  -- where no term, or no atom, can stand
-  pub plan_arity : Parted ArityAndBody d s at → Plan (passed d) (skipped 0) s at
-  plan_arity H = record { plan = λ t to k. no_arm (opened k.good.0 k.held H) }
-
-  pub plan_loose : {P : Parts} → Parted P d s at → Settles P false → Plan (kept d) (skipped 0) s at
-  plan_loose H l = record { plan = λ t to k. absurd (false≢true (settled (opened k.good.0 k.held H) l ∙ k.good.2)) }

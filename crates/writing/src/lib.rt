@@ -2,267 +2,295 @@
 
 #![tactic(auto)]
 
-ghost use Rattle.std.specs.Prelude.{true, false};
+ghost use Rattle.std.specs.Prelude.{◌≡◌, ◌%◌, ◌<◌, true, false, length, get_or};
 ghost use Rattle.language.specs.Words.{head};
-ghost use Rattle.language.specs.declared.Parts.TheVariants.{Body, FunctionAndArguments, BoundAndBody, CountAndArguments, SubjectAndArms, HighAndLow, TwoParts};
-ghost use Rattle.atoms.specs.Standing.{AtomAt, Parted};
-ghost use Rattle.writing.specs.Jobs.{passed, kept, keeps, chained, branches, linked, handed, Ready, Done};
+ghost use Rattle.language.specs.declared.Parts.TheVariants.{Nothing, Body, FunctionAndArguments, BoundAndBody, CountAndArguments, SubjectAndArms, HighAndLow, TwoParts};
+ghost use Rattle.writing.specs.Jobs.{passed, kept, keeps, chained, branches, copied, linked, handed, imaged, ReadyFor, NextIs, NextIsAtom, SameOutput, Does};
 ghost use Rattle.writing.specs.Written.{SomeWritable, ImageWritten};
 
 use atoms::{HEAD_AND_COUNT, HEAD_AND_NUMBER};
 use language::{LOW_BYTE, OPERANDS, Parts};
+use output::Output;
 use runs::{Continuation, Source};
 
-// Where the words of a number stand, from its head on.
-const HIGH: usize = 1;
-
-const LOW: usize = 2;
-
-// The next word to read, and the next to write.
-#[derive(Clone, Copy)]
-pub struct Places {
-    pub at: usize,
-    pub pos: usize,
+// A rule, the place of the next word of it that is read, and the output that the image is written to. Each method below reads what stands at
+// this place, up to its end, and writes a form of it.
+#[derive(Drop)]
+struct Translator<'rule, 'out, 'words> {
+    rule: &'rule [u16],
+    at: usize,
+    out: &'out mut Output<'words, u16>,
 }
 
-// The passing form of the term at `at`, which has at most `depth` levels.
-#[cycle(forms)]
-fn put_passing(out: &mut [u16], pos: usize, s: &[u16], at: usize, depth: usize) -> Places
-    requires { Ready (passed depth) out.old pos s.now at }
-    ensures { Done (passed depth) out.old pos s.now at out.new result.at result.pos }
-{
-    match atoms::parts_at(s, at, depth) {
-        Parts::Nothing => put_atom(out, pos, s, at, depth),
-        Parts::Body => put_atom(out, pos, s, at, depth),
-        Parts::FunctionAndArguments => put_call(out, pos, s, at, depth),
-        Parts::BoundAndBody => put_let(out, pos, s, at, depth),
-        Parts::CountAndArguments => {
-            if atoms::is_atom(s, at, depth) {
-                put_atom(out, pos, s, at, depth)
-            } else {
-                put_build(out, pos, s, at, depth)
+impl<'rule, 'out, 'words> Translator<'rule, 'out, 'words> {
+    // The low byte of the next word.
+    fn low_byte(&self) -> u8
+        requires { self.now.at < length self.now.rule.now }
+        ensures { result ≡ get_or self.now.rule.now self.now.at 0 % 256 }
+    {
+        (self.rule[self.at] % LOW_BYTE) as u8
+    }
+
+    // The next `count` words, as they are.
+    fn put_copied(&mut self, count: usize)
+        requires some { 0 < count }
+        requires ready { ReadyFor (copied count) self.old }
+        ensures same_reference { SameOutput self.old self.new }
+        ensures done { Does (copied count) self.old self.new }
+    {
+        let end = self.at + count;
+        self.out.put_all(&self.rule[self.at..end]);
+        self.at = end;
+    }
+
+    // The image of a rule.
+    fn put_image(&mut self)
+        requires { ReadyFor imaged self.old }
+        ensures same_reference { SameOutput self.old self.new }
+        ensures done { Does imaged self.old self.new }
+    {
+        self.out.put(runs::CALL_OF_ONE);
+        self.put_passing(language::DEEPEST);
+        runs::put_identity(self.out);
+    }
+
+    // The passing form of a term, which has at most `depth` levels.
+    #[cycle(forms)]
+    fn put_passing(&mut self, depth: usize)
+        requires { ReadyFor (passed depth) self.old }
+        ensures same_reference { SameOutput self.old self.new }
+        ensures done { Does (passed depth) self.old self.new }
+    {
+        match atoms::parts_at(self.rule, self.at) {
+            Parts::Nothing | Parts::Body | Parts::HighAndLow => self.put_atom(depth),
+            Parts::FunctionAndArguments => self.put_call(depth),
+            Parts::BoundAndBody => self.put_let(depth),
+            Parts::CountAndArguments => {
+                if atoms::is_atom(self.rule, self.at) {
+                    self.put_atom(depth);
+                } else {
+                    self.put_build(depth);
+                }
             }
+            Parts::SubjectAndArms => self.put_match(depth),
+            Parts::ArityAndBody => unreachable!(),
+            Parts::TwoParts => self.put_operation(depth),
         }
-        Parts::SubjectAndArms => put_match(out, pos, s, at, depth),
-        Parts::ArityAndBody => Places { at: at, pos: pos },
-        Parts::HighAndLow => put_atom(out, pos, s, at, depth),
-        Parts::TwoParts => put_operation(out, pos, s, at, depth),
     }
-}
 
-// The passing form of an atom.
-#[cycle(forms)]
-fn put_atom(out: &mut [u16], pos: usize, s: &[u16], at: usize, depth: usize) -> Places
-    requires { Ready (passed depth) out.old pos s.now at × AtomAt depth s.now at true }
-    ensures { Done (passed depth) out.old pos s.now at out.new result.at result.pos }
-{
-    let p = runs::put_added(out, pos, runs::CALL_OF_ONE, Continuation(0));
-    put_carried(out, p, s, at, depth)
-}
+    // The passing form of an atom.
+    #[cycle(forms)]
+    fn put_atom(&mut self, depth: usize)
+        requires ready { ReadyFor (passed depth) self.old }
+        requires atom { NextIsAtom true depth self.old }
+        ensures same_reference { SameOutput self.old self.new }
+        ensures done { Does (passed depth) self.old self.new }
+    {
+        runs::put_added(self.out, runs::CALL_OF_ONE, Continuation(0));
+        self.put_carried(depth);
+    }
 
-// The passing form of a call.
-#[cycle(forms)]
-fn put_call(out: &mut [u16], pos: usize, s: &[u16], at: usize, depth: usize) -> Places
-    requires { Ready (passed depth) out.old pos s.now at × Parted FunctionAndArguments depth s.now at }
-    ensures { Done (passed depth) out.old pos s.now at out.new result.at result.pos }
-{
-    let n = (s[at] % LOW_BYTE) as u8;
-    let c = put_chain(out, pos, s, at + 1, depth - 1, n as usize + 1);
-    let e = runs::put_calling(out, c.pos, n);
-    Places { at: c.at, pos: e }
-}
+    // The passing form of a call.
+    #[cycle(forms)]
+    fn put_call(&mut self, depth: usize)
+        requires ready { ReadyFor (passed depth) self.old }
+        requires form { NextIs FunctionAndArguments depth self.old }
+        ensures same_reference { SameOutput self.old self.new }
+        ensures done { Does (passed depth) self.old self.new }
+    {
+        let arguments = self.low_byte();
+        self.at += 1;
+        self.put_chain(depth - 1, arguments as usize + 1);
+        runs::put_calling(self.out, arguments);
+    }
 
-// The passing form of a let: inside the added function, k_0 is the value and k_1 the continuation.
-#[cycle(forms)]
-fn put_let(out: &mut [u16], pos: usize, s: &[u16], at: usize, depth: usize) -> Places
-    requires { Ready (passed depth) out.old pos s.now at × Parted BoundAndBody depth s.now at }
-    ensures { Done (passed depth) out.old pos s.now at out.new result.at result.pos }
-{
-    let m = put_link(out, pos, s, at + 1, depth - 1);
-    let p = runs::put_added(out, m.pos, runs::LET, Continuation(0));
-    put_handed(out, p, s, m.at, depth - 1, Continuation(1))
-}
+    // The passing form of a let: inside the added function, k_0 is the value and k_1 the continuation.
+    #[cycle(forms)]
+    fn put_let(&mut self, depth: usize)
+        requires ready { ReadyFor (passed depth) self.old }
+        requires form { NextIs BoundAndBody depth self.old }
+        ensures same_reference { SameOutput self.old self.new }
+        ensures done { Does (passed depth) self.old self.new }
+    {
+        self.at += 1;
+        self.put_link(depth - 1);
+        runs::put_added(self.out, runs::LET, Continuation(0));
+        self.put_handed(depth - 1, Continuation(1));
+    }
 
-// The passing form of a constructor that is no atom.
-#[cycle(forms)]
-fn put_build(out: &mut [u16], pos: usize, s: &[u16], at: usize, depth: usize) -> Places
-    requires { Ready (passed depth) out.old pos s.now at × Parted CountAndArguments depth s.now at × AtomAt depth s.now at false }
-    ensures { Done (passed depth) out.old pos s.now at out.new result.at result.pos }
-{
-    let tag = (s[at] % LOW_BYTE) as u8;
-    let count = atoms::count_at(s, at, depth);
-    let c = put_chain(out, pos, s, at + HEAD_AND_COUNT, depth - 1, count);
-    let e = runs::put_making(out, c.pos, tag, count as u8);
-    Places { at: c.at, pos: e }
-}
+    // The passing form of a constructor that is no atom.
+    #[cycle(forms)]
+    fn put_build(&mut self, depth: usize)
+        requires ready { ReadyFor (passed depth) self.old }
+        requires form { NextIs CountAndArguments depth self.old }
+        requires no_atom { NextIsAtom false depth self.old }
+        ensures same_reference { SameOutput self.old self.new }
+        ensures done { Does (passed depth) self.old self.new }
+    {
+        let tag = self.low_byte();
+        let count = atoms::count_at(self.rule, self.at);
+        self.at += HEAD_AND_COUNT;
+        self.put_chain(depth - 1, count);
+        runs::put_making(self.out, tag, count as u8);
+    }
 
-// The passing form of an operation: that of a constructor that is no atom, but for its one word.
-#[cycle(forms)]
-fn put_operation(out: &mut [u16], pos: usize, s: &[u16], at: usize, depth: usize) -> Places
-    requires { Ready (passed depth) out.old pos s.now at × Parted TwoParts depth s.now at }
-    ensures { Done (passed depth) out.old pos s.now at out.new result.at result.pos }
-{
-    let operation = (s[at] % LOW_BYTE) as u8;
-    let c = put_chain(out, pos, s, at + 1, depth - 1, OPERANDS as usize);
-    let e = runs::put_working(out, c.pos, operation, OPERANDS);
-    Places { at: c.at, pos: e }
-}
+    // The passing form of an operation: that of a constructor that is no atom, but for its one word.
+    #[cycle(forms)]
+    fn put_operation(&mut self, depth: usize)
+        requires ready { ReadyFor (passed depth) self.old }
+        requires form { NextIs TwoParts depth self.old }
+        ensures same_reference { SameOutput self.old self.new }
+        ensures done { Does (passed depth) self.old self.new }
+    {
+        let operation = self.low_byte();
+        self.at += 1;
+        self.put_chain(depth - 1, OPERANDS as usize);
+        runs::put_working(self.out, operation, OPERANDS);
+    }
 
-// The passing form of a match.
-#[cycle(forms)]
-fn put_match(out: &mut [u16], pos: usize, s: &[u16], at: usize, depth: usize) -> Places
-    requires { Ready (passed depth) out.old pos s.now at × Parted SubjectAndArms depth s.now at }
-    ensures { Done (passed depth) out.old pos s.now at out.new result.at result.pos }
-{
-    let w = s[at];
-    let m = put_link(out, pos, s, at + 1, depth - 1);
-    let p = runs::put_added(out, m.pos, w, Continuation(0));
-    put_arms(out, p, s, m.at, depth - 1, (w % LOW_BYTE) as usize)
-}
+    // The passing form of a match.
+    #[cycle(forms)]
+    fn put_match(&mut self, depth: usize)
+        requires ready { ReadyFor (passed depth) self.old }
+        requires form { NextIs SubjectAndArms depth self.old }
+        ensures same_reference { SameOutput self.old self.new }
+        ensures done { Does (passed depth) self.old self.new }
+    {
+        let word = self.rule[self.at];
+        self.at += 1;
+        self.put_link(depth - 1);
+        runs::put_added(self.out, word, Continuation(0));
+        self.put_arms(depth - 1, (word % LOW_BYTE) as usize);
+    }
 
-// An added function, and a call in it of the passing form of the term at `at`.
-#[cycle(forms)]
-fn put_link(out: &mut [u16], pos: usize, s: &[u16], at: usize, depth: usize) -> Places
-    requires { Ready (linked depth) out.old pos s.now at }
-    ensures { Done (linked depth) out.old pos s.now at out.new result.at result.pos }
-{
-    let p = runs::put2(out, pos, runs::ADDED_FUNCTION, runs::CALL_OF_ONE);
-    put_passing(out, p, s, at, depth)
-}
+    // An added function, and a call in it of the passing form of a term.
+    #[cycle(forms)]
+    fn put_link(&mut self, depth: usize)
+        requires { ReadyFor (linked depth) self.old }
+        ensures same_reference { SameOutput self.old self.new }
+        ensures done { Does (linked depth) self.old self.new }
+    {
+        self.out.put_all(&[runs::ADDED_FUNCTION, runs::CALL_OF_ONE]);
+        self.put_passing(depth);
+    }
 
-// A call of the passing form of the term at `at`, which is handed k.
-#[cycle(forms)]
-fn put_handed(
-    out: &mut [u16],
-    pos: usize,
-    s: &[u16],
-    at: usize,
-    depth: usize,
-    k: Continuation,
-) -> Places
-    requires { Ready (handed depth (head 9 k.0)) out.old pos s.now at }
-    ensures { Done (handed depth (head 9 k.0)) out.old pos s.now at out.new result.at result.pos }
-{
-    let p = runs::put1(out, pos, runs::CALL_OF_ONE);
-    let b = put_passing(out, p, s, at, depth);
-    let e = runs::put_continuation(out, b.pos, k);
-    Places { at: b.at, pos: e }
-}
+    // A call of the passing form of a term, which is handed k.
+    #[cycle(forms)]
+    fn put_handed(&mut self, depth: usize, k: Continuation)
+        requires { ReadyFor (handed depth (head 9 k.0)) self.old }
+        ensures same_reference { SameOutput self.old self.new }
+        ensures done { Does (handed depth (head 9 k.0)) self.old self.new }
+    {
+        self.out.put(runs::CALL_OF_ONE);
+        self.put_passing(depth);
+        runs::put_continuation(self.out, k);
+    }
 
-// The carried form of the atom at `at`.
-#[cycle(forms)]
-fn put_carried(out: &mut [u16], pos: usize, s: &[u16], at: usize, depth: usize) -> Places
-    requires { Ready (kept depth) out.old pos s.now at }
-    ensures { Done (kept depth) out.old pos s.now at out.new result.at result.pos }
-{
-    match atoms::parts_at(s, at, depth) {
-        Parts::Nothing => {
-            let e = runs::put_source(out, pos, Source((s[at] % LOW_BYTE) as u8));
-            Places { at: at + 1, pos: e }
+    // The carried form of an atom.
+    #[cycle(forms)]
+    fn put_carried(&mut self, depth: usize)
+        requires { ReadyFor (kept depth) self.old }
+        ensures same_reference { SameOutput self.old self.new }
+        ensures done { Does (kept depth) self.old self.new }
+    {
+        match atoms::parts_at(self.rule, self.at) {
+            Parts::Nothing => self.put_variable(depth),
+            Parts::Body => self.put_function(depth),
+            Parts::CountAndArguments => self.put_constructor(depth),
+            Parts::HighAndLow => self.put_number(depth),
+            Parts::FunctionAndArguments
+            | Parts::BoundAndBody
+            | Parts::SubjectAndArms
+            | Parts::ArityAndBody
+            | Parts::TwoParts => unreachable!(),
         }
-        Parts::Body => put_function(out, pos, s, at, depth),
-        Parts::CountAndArguments => put_constructor(out, pos, s, at, depth),
-        Parts::FunctionAndArguments => Places { at: at, pos: pos },
-        Parts::BoundAndBody => Places { at: at, pos: pos },
-        Parts::SubjectAndArms => Places { at: at, pos: pos },
-        Parts::ArityAndBody => Places { at: at, pos: pos },
-        Parts::HighAndLow => put_number(out, pos, s, at, depth),
-        Parts::TwoParts => Places { at: at, pos: pos },
     }
-}
 
-// The carried form of a number: itself.
-fn put_number(out: &mut [u16], pos: usize, s: &[u16], at: usize, depth: usize) -> Places
-    requires { Ready (kept depth) out.old pos s.now at × Parted HighAndLow depth s.now at }
-    ensures { Done (kept depth) out.old pos s.now at out.new result.at result.pos }
-{
-    let h = runs::put1(out, pos, s[at]);
-    let e = runs::put2(out, h, s[at + HIGH], s[at + LOW]);
-    Places {
-        at: at + HEAD_AND_NUMBER,
-        pos: e,
+    // The carried form of a variable: the variable.
+    fn put_variable(&mut self, depth: usize)
+        requires ready { ReadyFor (kept depth) self.old }
+        requires form { NextIs Nothing depth self.old }
+        ensures same_reference { SameOutput self.old self.new }
+        ensures done { Does (kept depth) self.old self.new }
+    {
+        let variable = Source(self.low_byte());
+        runs::put_source(self.out, variable);
+        self.at += 1;
     }
-}
 
-// The carried form of a function, recursive or not: it has one argument more.
-#[cycle(forms)]
-fn put_function(out: &mut [u16], pos: usize, s: &[u16], at: usize, depth: usize) -> Places
-    requires { Ready (kept depth) out.old pos s.now at × Parted Body depth s.now at }
-    ensures { Done (kept depth) out.old pos s.now at out.new result.at result.pos }
-{
-    let p = runs::put1(out, pos, s[at] + 1);
-    put_handed(out, p, s, at + 1, depth - 1, Continuation(0))
-}
-
-// The carried form of a constructor of atoms.
-#[cycle(forms)]
-fn put_constructor(out: &mut [u16], pos: usize, s: &[u16], at: usize, depth: usize) -> Places
-    requires { Ready (kept depth) out.old pos s.now at × Parted CountAndArguments depth s.now at }
-    ensures { Done (kept depth) out.old pos s.now at out.new result.at result.pos }
-{
-    let count = atoms::count_at(s, at, depth);
-    let p = runs::put_copied(out, pos, s, at);
-    put_carrieds(out, p, s, at + HEAD_AND_COUNT, depth - 1, count)
-}
-
-// The carried forms of the `count` atoms at `at`.
-#[cycle(forms)]
-fn put_carrieds(
-    out: &mut [u16],
-    pos: usize,
-    s: &[u16],
-    at: usize,
-    depth: usize,
-    count: usize,
-) -> Places
-    requires { Ready (keeps depth count) out.old pos s.now at }
-    ensures { Done (keeps depth count) out.old pos s.now at out.new result.at result.pos }
-{
-    let mut next = Places { at: at, pos: pos };
-    let mut atoms_left = count;
-    while 0 < atoms_left {
-        next = put_carried(out, next.pos, s, next.at, depth);
-        atoms_left -= 1;
+    // The carried form of a number: itself.
+    fn put_number(&mut self, depth: usize)
+        requires ready { ReadyFor (kept depth) self.old }
+        requires form { NextIs HighAndLow depth self.old }
+        ensures same_reference { SameOutput self.old self.new }
+        ensures done { Does (kept depth) self.old self.new }
+    {
+        self.put_copied(HEAD_AND_NUMBER);
     }
-    next
-}
 
-// The chain over the `count` terms at `at`, without its end.
-#[cycle(forms)]
-fn put_chain(
-    out: &mut [u16],
-    pos: usize,
-    s: &[u16],
-    at: usize,
-    depth: usize,
-    count: usize,
-) -> Places
-    requires { Ready (chained depth count) out.old pos s.now at }
-    ensures { Done (chained depth count) out.old pos s.now at out.new result.at result.pos }
-{
-    let mut next = Places { at: at, pos: pos };
-    let mut terms_left = count;
-    while 0 < terms_left {
-        next = put_link(out, next.pos, s, next.at, depth);
-        terms_left -= 1;
+    // The carried form of a function, recursive or not: it has one argument more.
+    #[cycle(forms)]
+    fn put_function(&mut self, depth: usize)
+        requires ready { ReadyFor (kept depth) self.old }
+        requires form { NextIs Body depth self.old }
+        ensures same_reference { SameOutput self.old self.new }
+        ensures done { Does (kept depth) self.old self.new }
+    {
+        let head = self.rule[self.at];
+        self.out.put(head + 1);
+        self.at += 1;
+        self.put_handed(depth - 1, Continuation(0));
     }
-    next
-}
 
-// The `count` arms at `at`, each with its two words: its body is handed k_1.
-#[cycle(forms)]
-fn put_arms(out: &mut [u16], pos: usize, s: &[u16], at: usize, depth: usize, count: usize) -> Places
-    requires { Ready (branches depth count) out.old pos s.now at }
-    ensures { Done (branches depth count) out.old pos s.now at out.new result.at result.pos }
-{
-    let mut next = Places { at: at, pos: pos };
-    let mut arms_left = count;
-    while 0 < arms_left {
-        let p = runs::put_copied(out, next.pos, s, next.at);
-        next = put_handed(out, p, s, next.at + HEAD_AND_COUNT, depth, Continuation(1));
-        arms_left -= 1;
+    // The carried form of a constructor of atoms.
+    #[cycle(forms)]
+    fn put_constructor(&mut self, depth: usize)
+        requires ready { ReadyFor (kept depth) self.old }
+        requires form { NextIs CountAndArguments depth self.old }
+        ensures same_reference { SameOutput self.old self.new }
+        ensures done { Does (kept depth) self.old self.new }
+    {
+        let count = atoms::count_at(self.rule, self.at);
+        self.put_copied(HEAD_AND_COUNT);
+        self.put_carrieds(depth - 1, count);
     }
-    next
+
+    // The carried forms of `count` atoms.
+    #[cycle(forms)]
+    fn put_carrieds(&mut self, depth: usize, count: usize)
+        requires { ReadyFor (keeps depth count) self.old }
+        ensures same_reference { SameOutput self.old self.new }
+        ensures done { Does (keeps depth count) self.old self.new }
+    {
+        'atoms: for _ in 0..count {
+            self.put_carried(depth);
+        }
+    }
+
+    // The chain over `count` terms, without its end.
+    #[cycle(forms)]
+    fn put_chain(&mut self, depth: usize, count: usize)
+        requires { ReadyFor (chained depth count) self.old }
+        ensures same_reference { SameOutput self.old self.new }
+        ensures done { Does (chained depth count) self.old self.new }
+    {
+        'links: for _ in 0..count {
+            self.put_link(depth);
+        }
+    }
+
+    // `count` arms, each with its two words: its body is handed k_1.
+    #[cycle(forms)]
+    fn put_arms(&mut self, depth: usize, count: usize)
+        requires { ReadyFor (branches depth count) self.old }
+        ensures same_reference { SameOutput self.old self.new }
+        ensures done { Does (branches depth count) self.old self.new }
+    {
+        'arms: for _ in 0..count {
+            self.put_copied(HEAD_AND_COUNT);
+            self.put_handed(depth, Continuation(1));
+        }
+    }
 }
 
 // The image of the rule s, at the front of the output; every later word of the output is unchanged. Returns the image's word count.
@@ -270,7 +298,12 @@ pub fn write_image(out: &mut [u16], s: &[u16]) -> usize
     requires { SomeWritable out.old s.now }
     ensures { ImageWritten out.old s.now out.new result }
 {
-    let p = runs::put1(out, 0, runs::CALL_OF_ONE);
-    let t = put_passing(out, p, s, 0, language::DEEPEST);
-    runs::put_identity(out, t.pos)
+    let mut output = Output { words: out, pos: 0 };
+    let mut translator = Translator {
+        rule: s,
+        at: 0,
+        out: &mut output,
+    };
+    translator.put_image();
+    output.pos
 }

@@ -8,8 +8,8 @@ tests-init c = search passes
 pub opening_at-head-requires : goal.opening_at-head-requires
 opening_at-head-requires c = search passes
 
-pub returns-in-NoAtom : goal.returns-in-NoAtom
-returns-in-NoAtom c = search passes
+pub returns-in_default : goal.returns-in_default
+returns-in_default c = search passes
 
 pub tests-preserved : goal.tests-preserved
 tests-preserved c = search passes

@@ -4,7 +4,7 @@ use Rattle.atoms.proofs.Pass.{Going}
 use Rattle.atoms.proofs.is_atom.Given as goal
 
 abbrev pub invariant-tests : goal.invariant-tests
-invariant-tests l = Going l.depth l.s l.at l.next l.inside l.atoms_left
+invariant-tests l = Going l.s l.at l.next l.rest.pieces l.rest.terms
 
 abbrev pub decreases-tests : goal.decreases-tests
 decreases-tests l = length l.s - l.next

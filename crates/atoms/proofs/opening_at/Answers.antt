@@ -5,8 +5,8 @@ use Rattle.atoms.proofs.opening_at.Goals as goal
 pub bounds-s-at : goal.bounds-s-at
 bounds-s-at c = search openings
 
-pub pieces_at-pieces-requires : goal.pieces_at-pieces-requires
-pieces_at-pieces-requires c = search openings
+pub pieces_at-requires : goal.pieces_at-requires
+pieces_at-requires c = search openings
 
 pub returns : goal.returns
 returns c = search openings

@@ -1,15 +1,10 @@
--- `writing::write_image` meets its contract: the image's words, run by run.
-use Rattle.writing.proofs.Whole.{ways}
+-- `writing::write_image` meets its contract: what the translator has written into its output stands in the lent memory.
+use Rattle.std.proofs.Common.{arith}
+use Rattle.writing.proofs.Whole.{ready, written}
 use Rattle.writing.proofs.write_image.Goals as goal
 
-pub put1-p-requires : goal.put1-p-requires
-put1-p-requires c = search ways
-
-pub put_passing-t-requires : goal.put_passing-t-requires
-put_passing-t-requires c = search ways
-
-pub put_identity-requires : goal.put_identity-requires
-put_identity-requires c = search ways
+pub put_image-requires : goal.put_image-requires
+put_image-requires c = ready c.requires
 
 pub returns : goal.returns
-returns c = search ways
+returns c = grind (arith, written c.put_image.ensures.done)

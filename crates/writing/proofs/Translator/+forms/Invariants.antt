@@ -1,9 +1,9 @@
 -- The writers of forms, of lists and of arms end: the levels left fall from a term to its parts, and among the writers of one level each calls those
 -- below it alone. The loops over lists and arms keep: what is still to be written is all that is left of the whole.
-use Rattle.std.proofs.Common.{ℕ, ◌≡◌, ◌+◌, ◌*◌, length}
+use Rattle.std.proofs.Common.{ℕ, ◌+◌, ◌-◌, ◌*◌}
 use Rattle.writing.specs.Jobs.{keeps, chained, branches}
-use Rattle.writing.proofs.Jobs.{Left}
-use Rattle.writing.proofs.+forms.Given as goal
+use Rattle.writing.proofs.Jobs.{Going}
+use Rattle.writing.proofs.Translator.+forms.Given as goal
 
 -- a writer of a thing of d levels, which calls no writer of d levels but those of a lower number; the numbers are 0 to 5
 abbrev rank : ℕ → ℕ → ℕ
@@ -54,29 +54,11 @@ decreases-put_operation l = rank l.depth 0
 abbrev pub decreases-put_passing : goal.decreases-put_passing
 decreases-put_passing l = rank l.depth 3
 
-abbrev pub invariant-put_arms-loop-arms_left : goal.invariant-put_arms-loop-arms_left
-invariant-put_arms-loop-arms_left l = record {
-  left : Left (branches l.depth l.count) l.fn.out l.pos l.s l.at (branches l.depth l.arms_left) l.out l.next.pos l.next.at;
-  same : length l.out ≡ length l.fn.out;
-}
+abbrev pub invariant-put_arms-arms : goal.invariant-put_arms-arms
+invariant-put_arms-arms l = Going (branches l.depth l.count) l.initial.self (branches l.depth (l.count - l.counter)) l.self
 
-abbrev pub decreases-put_arms-loop-arms_left : goal.decreases-put_arms-loop-arms_left
-decreases-put_arms-loop-arms_left l = l.arms_left
+abbrev pub invariant-put_carrieds-atoms : goal.invariant-put_carrieds-atoms
+invariant-put_carrieds-atoms l = Going (keeps l.depth l.count) l.initial.self (keeps l.depth (l.count - l.counter)) l.self
 
-abbrev pub invariant-put_carrieds-loop-atoms_left : goal.invariant-put_carrieds-loop-atoms_left
-invariant-put_carrieds-loop-atoms_left l = record {
-  left : Left (keeps l.depth l.count) l.fn.out l.pos l.s l.at (keeps l.depth l.atoms_left) l.out l.next.pos l.next.at;
-  same : length l.out ≡ length l.fn.out;
-}
-
-abbrev pub decreases-put_carrieds-loop-atoms_left : goal.decreases-put_carrieds-loop-atoms_left
-decreases-put_carrieds-loop-atoms_left l = l.atoms_left
-
-abbrev pub invariant-put_chain-loop-terms_left : goal.invariant-put_chain-loop-terms_left
-invariant-put_chain-loop-terms_left l = record {
-  left : Left (chained l.depth l.count) l.fn.out l.pos l.s l.at (chained l.depth l.terms_left) l.out l.next.pos l.next.at;
-  same : length l.out ≡ length l.fn.out;
-}
-
-abbrev pub decreases-put_chain-loop-terms_left : goal.decreases-put_chain-loop-terms_left
-decreases-put_chain-loop-terms_left l = l.terms_left
+abbrev pub invariant-put_chain-links : goal.invariant-put_chain-links
+invariant-put_chain-links l = Going (chained l.depth l.count) l.initial.self (chained l.depth (l.count - l.counter)) l.self
