@@ -9,7 +9,7 @@ use lib.ListN.{length, length-append}
 use Rattle.atoms.specs.Standing.{Thing, Seen}
 use Rattle.atoms.proofs.Standing.{first, second, ends_over, ends_then}
 use Rattle.output.specs.Stored.{Room, Put}
-use Rattle.runs.proofs.Runs.{put_none, put_then, room_left, put_as}
+use Rattle.output.proofs.Stored.{put_none, put_then, room_left, put_as}
 use Rattle.writing.specs.Jobs.{Job, before, after, skipped, ◌next◌, reads, target, Ready, Done, SameOutput}
 use Rattle.writing.specs.declared.Translator.{Translator}
 

@@ -24,7 +24,7 @@ use Rattle.atoms.proofs.Opened.{Opened, o_call, opened}
 use Rattle.atoms.proofs.Ways.{parted}
 use Rattle.atoms.proofs.Tests.{Settles, settled, told, atom_settled}
 use Rattle.output.specs.Stored.{Room, Put}
-use Rattle.runs.proofs.Runs.{put_as}
+use Rattle.output.proofs.Stored.{put_as}
 use Rattle.sizes.proofs.Lengths.{of_calling, of_making, of_working}
 use Rattle.writing.specs.Jobs.{Job, passed, kept, keeps, chained, branches, before, after, copied, ◌next◌, linked, handed, imaged, Ready, Done}
 use Rattle.writing.proofs.Jobs.{before_room, before_ready, before_done, after_ready, after_room, after_done, next_first, next_second, next_done, skipped_done, Plan, ready_as, done_as, Left, left_as, left_none, left_second}
