@@ -27,8 +27,7 @@ pub fn parts_at(s: &[u16], at: usize) -> Parts
 
 // How many arguments the constructor at `at` has.
 pub fn count_at(s: &[u16], at: usize) -> usize
-    requires stands { TermAt s.now at }
-    requires constructor { form_at s.now at ≡ CountAndArguments }
+    requires { TermAt s.now at × (form_at s.now at ≡ CountAndArguments) }
     ensures { Counted result s.now at }
 {
     s[at + 1] as usize

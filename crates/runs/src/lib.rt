@@ -100,8 +100,7 @@ fn put_down(out: &mut Output<'_, u16>, n: u8)
 
 // The end of the chain of a call with n arguments: k_n applied to k_(n+1), then k_(n-1) down to k_0.
 pub fn put_calling(out: &mut Output<'_, u16>, n: u8)
-    requires room { HasRoom out.old (n + 4) }
-    requires few { n < most_byte }
+    requires { HasRoom out.old (n + 4) × (n < most_byte) }
     ensures same_reference { out.new.words.ghost_name ≡ out.old.words.ghost_name }
     ensures put { Writes (0x0201 ∷ words images (calling n)) out.old out.new }
 {

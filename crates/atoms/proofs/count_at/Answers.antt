@@ -4,13 +4,13 @@ use Rattle.atoms.proofs.Ways.{counted, ways}
 use Rattle.atoms.proofs.count_at.Goals as goal
 
 pub overflow_add-result : goal.overflow_add-result
-overflow_add-result c = omega (arith, counted c.requires.stands c.requires.constructor)
+overflow_add-result c = omega (arith, counted c.requires.0 c.requires.1)
 
 pub offset_bounds-s-at : goal.offset_bounds-s-at
-offset_bounds-s-at c = omega (arith, counted c.requires.stands c.requires.constructor)
+offset_bounds-s-at c = omega (arith, counted c.requires.0 c.requires.1)
 
 pub bounds-s-at : goal.bounds-s-at
-bounds-s-at c = omega (arith, counted c.requires.stands c.requires.constructor)
+bounds-s-at c = omega (arith, counted c.requires.0 c.requires.1)
 
 pub returns : goal.returns
 returns c = search ways

@@ -33,11 +33,8 @@ put_build-put_making-requires t c = search ways
 pub put_build-returns-clause-done : goal.put_build-returns-clause-done
 put_build-returns-clause-done t c = search ways
 
-pub put_call-put_calling-requires-clause-few : goal.put_call-put_calling-requires-clause-few
-put_call-put_calling-requires-clause-few t c = search ways
-
-pub put_call-put_calling-requires-clause-room : goal.put_call-put_calling-requires-clause-room
-put_call-put_calling-requires-clause-room t c = search ways
+pub put_call-put_calling-requires : goal.put_call-put_calling-requires
+put_call-put_calling-requires t c = search ways
 
 pub put_call-put_chain-requires : goal.put_call-put_chain-requires
 put_call-put_chain-requires t c = search ways
@@ -81,8 +78,8 @@ put_chain-put_link-requires t c = search ways
 pub put_chain-returns-clause-done : goal.put_chain-returns-clause-done
 put_chain-returns-clause-done t c = search ways
 
-pub put_constructor-count_at-count-requires-clause-stands : goal.put_constructor-count_at-count-requires-clause-stands
-put_constructor-count_at-count-requires-clause-stands t c = search ways
+pub put_constructor-count_at-count-requires : goal.put_constructor-count_at-count-requires
+put_constructor-count_at-count-requires t c = search ways
 
 pub put_constructor-put_carrieds-requires : goal.put_constructor-put_carrieds-requires
 put_constructor-put_carrieds-requires t c = search ways
