@@ -3,10 +3,10 @@
 
 #![tactic(auto)]
 
-ghost use Rattle.std.specs.Prelude.{◌≡◌, ◌+◌, ◌*◌, ◌<◌, ◌≤◌, length};
+ghost use Rattle.std.specs.Prelude.{◌≡◌, ◌*◌, ◌<◌, ◌≤◌, length, IfSome};
 
-use desk::Input;
-use language::Answer;
+use desk::Failure;
+use std::io;
 use std::io::{Read, Write};
 
 // The most bytes of the input, and the most words of a record.
@@ -36,111 +36,88 @@ const MODULUS: u32 = 65521;
 struct Sums {
     low: u32,
     high: u32,
+    ghost below_modulus: { (low < 65521) × (high < 65521) },
 }
 
-// The place after a record, and whether its report could be written.
-#[derive(Clone, Copy)]
-struct Reported {
-    next: usize,
-    written: bool,
-}
-
-// The sums with one word more.
-fn added(sums: Sums, word: u16) -> Sums
-    requires { (sums.low < 65521) × (sums.high < 65521) }
-    ensures { (result.low < 65521) × (result.high < 65521) }
-{
-    let low = (sums.low + word as u32) % MODULUS;
-    let high = (sums.high + low) % MODULUS;
-    Sums { low, high }
-}
-
-fn checksum(words: &[u16]) -> Sums
-    ensures { (result.low < 65521) × (result.high < 65521) }
-{
-    let mut sums = Sums { low: 1, high: 0 };
-    for word in words {
-        sums = added(sums, *word);
+impl Sums {
+    // The sums with one word more.
+    fn with(self, word: u16) -> Sums {
+        let low = (self.low + word as u32) % MODULUS;
+        let high = (self.high + low) % MODULUS;
+        Sums { low, high }
     }
-    sums
 }
 
-// Prints an accepted rule's line, and its image where that is short. All that prints says whether it could be written.
-fn print_image<W: Write>(out: &mut W, image: &[u16]) -> bool {
+fn checksum(words: &[u16]) -> Sums {
+    let none = Sums { low: 1, high: 0 };
+    words.iter().fold(none, |sums, word| sums.with(*word))
+}
+
+// Prints an accepted rule's line, and its image where that is short.
+fn print_image<W: Write>(out: &mut W, image: &[u16]) -> io::Result<()> {
     let sums = checksum(image);
-    let mut text = [0u8; 9];
-    listing::put_word(&mut text, 0, sums.high as u16, b' ');
-    listing::put_word(&mut text, 4, sums.low as u16, b'\n');
-    print_count(out, image.len()) && out.write_all(&text).is_ok() && print_short(out, image)
+    let (count, high, low) = (image.len(), sums.high, sums.low);
+    writeln!(out, "ok {count} {high:04X}{low:04X}")?;
+    print_short(out, image)
 }
 
-fn print_count<W: Write>(out: &mut W, count: usize) -> bool {
-    write!(out, "ok {count} ").is_ok()
-}
-
-fn print_short<W: Write>(out: &mut W, image: &[u16]) -> bool {
+fn print_short<W: Write>(out: &mut W, image: &[u16]) -> io::Result<()> {
     if SHORT_IMAGE < image.len() {
-        return true;
+        return Ok(());
     }
     let mut text = [0u8; SHORT_TEXT];
     listing::put_words(&mut text, 0, image);
     let size = WORD_TEXT * image.len();
-    out.write_all(&text[..size]).is_ok()
+    out.write_all(&text[..size])
 }
 
-fn print_refusal<W: Write>(out: &mut W, number: u8, place: usize) -> bool {
-    writeln!(out, "no {number} {place}").is_ok()
+// A record at the front of some bytes: its version, the bytes of its words, and the bytes behind it.
+#[derive(Clone, Copy)]
+struct Record<'a> {
+    version: u16,
+    words: &'a [u8],
+    rest: &'a [u8],
 }
 
-// Translates a rule, read in a version, and prints what came of it.
-fn report<W: Write>(out: &mut W, version: u16, rule: &[u16]) -> bool {
-    let mut image = [0u16; language::MOST_IMAGE_WORDS];
-    match rules::write(&mut image, version, rule) {
-        Answer::Refusal(e, p) => print_refusal(out, e, p),
-        Answer::Count(n) => n <= language::MOST_IMAGE_WORDS && print_image(out, &image[..n]),
-    }
-}
-
-// Reports the record at a place, and gives the place after it; the end where there is no whole record.
-fn record<W: Write>(out: &mut W, bytes: &[u8], at: usize) -> Reported
-    requires { at < length bytes.now }
-    ensures { (at < result.next) × (result.next ≤ length bytes.now) }
+// The record at the front, where there is a whole one that is not too long.
+fn first_record<'a>(bytes: &'a [u8]) -> Option<Record<'a>>
+    ensures { IfSome result (λ r. (length r.words.now ≤ 2 * 5000) × (length r.rest.now < length bytes.now)) }
 {
-    let end = bytes.len();
-    let none = Reported {
-        next: end,
-        written: true,
-    };
-    if end - at < RECORD_HEADER {
-        return none;
-    }
-    let version = files::word_at(bytes, at);
-    let count = files::word_at(bytes, at + COUNT_AT) as usize;
+    let (header, behind) = bytes.split_at_checked(RECORD_HEADER)?;
+    let version = files::word_at(header, 0);
+    let count = files::word_at(header, COUNT_AT) as usize;
     if MOST_RECORD < count {
-        return none;
+        return None;
     }
-    if end - at - RECORD_HEADER < WORD_BYTES * count {
-        return none;
-    }
+    let (words, rest) = behind.split_at_checked(WORD_BYTES * count)?;
+    Some(Record {
+        version,
+        words,
+        rest,
+    })
+}
+
+// Translates a record's rule, read in its version, and prints what came of it.
+fn report<W: Write>(out: &mut W, version: u16, words: &[u8]) -> io::Result<()>
+    requires { length words.now ≤ 2 * 5000 }
+{
+    let count = words.len() / WORD_BYTES;
     let mut rule = [0u16; MOST_RECORD];
-    files::take_words(&mut rule, bytes, at + RECORD_HEADER, count);
-    let written = report(out, version, &rule[..count]);
-    Reported {
-        next: at + RECORD_HEADER + WORD_BYTES * count,
-        written,
+    files::take_words(&mut rule, words, 0, count);
+    let mut image = [0u16; language::MOST_IMAGE_WORDS];
+    match rules::write(&mut image, version, &rule[..count]) {
+        Ok(count) => print_image(out, &image[..count]),
+        Err(refusal) => writeln!(out, "no {refusal}"),
     }
 }
 
-fn report_all<W: Write>(out: &mut W, bytes: &[u8]) -> bool {
-    let mut at = 0;
-    while at < bytes.len() {
-        let reported = record(out, bytes, at);
-        if !reported.written {
-            return false;
-        }
-        at = reported.next;
+fn report_all<W: Write>(out: &mut W, bytes: &[u8]) -> io::Result<()> {
+    let mut rest = bytes;
+    while let Some(record) = first_record(rest) {
+        report(out, record.version, record.words)?;
+        rest = record.rest;
     }
-    true
+    Ok(())
 }
 
 // Zeros, to read the input into. A proof that lends them needs their number alone.
@@ -150,28 +127,19 @@ fn zeros<const N: usize>() -> [u8; N]
     [0; N]
 }
 
-// Reads the records of a file, as far as the buffer holds them, and reports each. What failed is told on standard error.
-fn report_file<F: Read, W: Write, E: Write>(
+// Reads the records of a file, as far as the buffer holds them, and reports each.
+fn report_file<F: Read, W: Write>(
     buffer: &mut [u8],
     file: &mut F,
     out: &mut W,
-    errors: &mut E,
-) {
-    let Input::Arrived(arrived) = desk::read_file(buffer, file) else {
-        desk::tell_not_read(errors);
-        return;
-    };
-    if !report_all(out, &buffer[..arrived]) {
-        desk::tell_not_written(errors);
-    }
+) -> Result<(), Failure> {
+    let arrived = desk::read_file(buffer, file).map_err(|_| Failure::NotRead)?;
+    report_all(out, &buffer[..arrived]).map_err(|_| Failure::NotWritten)
 }
 
 fn main(rt: HostRuntime) {
     let mut input = zeros::<MOST_INPUT>();
-    report_file(
-        &mut input,
-        &mut rt.stdin(),
-        &mut rt.stdout(),
-        &mut rt.stderr(),
-    );
+    if let Err(failure) = report_file(&mut input, &mut rt.stdin(), &mut rt.stdout()) {
+        failure.tell(&mut rt.stderr());
+    }
 }

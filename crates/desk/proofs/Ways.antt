@@ -7,21 +7,19 @@ use native.Mathlib.Omega.{arith}
 use lib.ListN.{length, take, length-append, length-drop}
 use lib.Seq.{length-take-le}
 use borrow.Author.Tests.{lt-ltb, le-ltb}
-use Rattle.language.specs.Setting.{in_version}
+use Rattle.std.specs.Prelude.{Result, Ok, Err}
+use Rattle.std.specs.Result.{result_unwrap_or}
+use Rattle.language.specs.Setting.{Setting, in_version}
 use Rattle.language.specs.Read.{no_place, read}
 use Rattle.language.specs.Calls.{Reply, success, refusal, Outcome, reply_of, told, filled, written}
-use Rattle.language.specs.declared.Answer.{Answer}
-use Rattle.language.specs.declared.Answer.TheVariants.{Count, Refusal}
+use Rattle.language.specs.declared.Fault.TheVariants.{TooManyWords}
+use Rattle.language.specs.declared.Refusal.{Refusal}
 use Rattle.listing.specs.Text.{reply_text}
 use Rattle.files.specs.Files.{taking, unpacking, unpacked_reply, told_unpacked}
 use Rattle.files.proofs.Shapes.{Shaped, stays, fills, filled_shaped, written_shaped, taking_shaped}
 use Rattle.files.proofs.Promises.{versed_success}
 use Rattle.files.specs.declared.Form.TheVariants.{Rules}
 use Rattle.files.specs.declared.Unpacked.{Unpacked}
-use Rattle.files.specs.declared.Unpacked.TheVariants as unpacked
-use Rattle.desk.specs.Input.{arrived_of}
-use Rattle.desk.specs.declared.Input.{Input}
-use Rattle.desk.specs.declared.Input.TheVariants.{Arrived}
 use Rattle.desk.specs.Desk.{most_bytes, zeros, onward, translated, Within, counting, refusing, Translates, Counts, count_of, image_zeros, outcome_text, answer_text}
 
 -- an outcome on an output of m words: it counts no more, and leaves as many
@@ -34,10 +32,10 @@ sound (stays e p) = record { within = refusing; kept = refl }
 sound (fills ws l) = record { within = counting l; kept = simp (length-append, length-drop) (omega arith) }
 
 -- what an outcome tells, of the answer and of the output
-told_within : {m : ℕ} (a : Answer) {o : List ℕ} {x : Outcome ℕ} → told a o ≡ x → Sound m x → Within m (reply_of a)
+told_within : {m : ℕ} (a : Result ℕ Refusal) {o : List ℕ} {x : Outcome ℕ} → told a o ≡ x → Sound m x → Within m (reply_of a)
 told_within {m} a e h = subst (Within m) (sym (ap (λ y. y.reply) e)) h.within
 
-told_kept : {m : ℕ} (a : Answer) {o : List ℕ} {x : Outcome ℕ} → told a o ≡ x → Sound m x → length o ≡ m
+told_kept : {m : ℕ} (a : Result ℕ Refusal) {o : List ℕ} {x : Outcome ℕ} → told a o ≡ x → Sound m x → length o ≡ m
 told_kept a e h = ap (λ y. length y.output) e ∙ h.kept
 
 -- the count of an answer
@@ -46,45 +44,42 @@ count_within (counting h) = h
 
 -- the ways out
 module _ (bs out : List ℕ) where
-  pub t_long : most_bytes < length bs → Translates bs out (Refusal 2 no_place) out
+  pub t_long : {x : Refusal} → most_bytes < length bs → x ≡ record { fault = TooManyWords; place = no_place } → Translates bs out (Err x) out
   unfolding translated reply_of
-  t_long h = record { is = rw (lt-ltb most_bytes (length bs) h); within = refusing; kept = refl }
+  t_long h i = record { is = rw (i, lt-ltb most_bytes (length bs) h); within = refusing; kept = refl }
 
-  module _ (a : Unpacked) {ws : List ℕ} (l : length bs ≤ most_bytes) (u : told_unpacked a ws ≡ unpacking Rules bs zeros) where
-    through : translated bs out ≡ onward (unpacked_reply a) ws out
+  module _ {ws : List ℕ} (l : length bs ≤ most_bytes) where
+    through : (a : Result Unpacked Refusal) → told_unpacked a ws ≡ unpacking Rules bs zeros → translated bs out ≡ onward (unpacked_reply a) ws out
     unfolding translated
-    through = rw (le-ltb most_bytes (length bs) l, ← u)
+    through a u = rw (le-ltb most_bytes (length bs) l, ← u)
 
-    pub t_refused : {e p : ℕ} → a ≡ unpacked.Refusal e p → Translates bs out (Refusal e p) out
+    pub t_refused : (x : Refusal) → told_unpacked (Err x) ws ≡ unpacking Rules bs zeros → Translates bs out (Err x) out
     unfolding reply_of unpacked_reply onward
-    t_refused k = record { is = sym (through ∙ ap (λ x. onward (unpacked_reply x) ws out) k); within = refusing; kept = refl }
+    t_refused x u = record { is = sym (through (Err x) u); within = refusing; kept = refl }
 
     -- the words that were taken stand in the buffer
-    pub t_inside : {v n : ℕ} → a ≡ unpacked.Words v n → n ≤ length ws
+    pub t_inside : (x : Unpacked) → told_unpacked (Ok x) ws ≡ unpacking Rules bs zeros → x.count ≤ length ws
     unfolding unpacking unpacked_reply
-    t_inside {v} {n} k =
+    t_inside x u =
         let s = sound (taking_shaped Rules bs zeros) in
-        let r = versed_success (taking Rules bs zeros).reply (sym (ap (λ x. x.reply) u) ∙ ap unpacked_reply k) in
-        let w : n ≤ length zeros = count_within (subst (Within (length zeros)) r.0 s.within) in
-        rw (ap (λ x. length x.output) u ∙ s.kept) w
+        let r = versed_success (taking Rules bs zeros).reply (sym (ap (λ y. y.reply) u)) in
+        let w : x.count ≤ length zeros = count_within (subst (Within (length zeros)) r.0 s.within) in
+        rw (ap (λ y. length y.output) u ∙ s.kept) w
 
-    pub t_written : {v n : ℕ} (b : Answer) {o : List ℕ} → a ≡ unpacked.Words v n → told b o ≡ written (read (in_version v) (take n ws)) out
-        → Translates bs out b o
+    pub t_written : (x : Unpacked) (b : Result ℕ Refusal) {o : List ℕ} → told_unpacked (Ok x) ws ≡ unpacking Rules bs zeros
+        → told b o ≡ written (read (in_version x.version) (take x.count ws)) out → Translates bs out b o
     unfolding unpacked_reply onward
-    t_written {v} {n} b k w = record {
-      is = w ∙ sym (through ∙ ap (λ x. onward (unpacked_reply x) ws out) k);
-      within = told_within b w (sound (written_shaped (read (in_version v) (take n ws)) out));
-      kept = told_kept b w (sound (written_shaped (read (in_version v) (take n ws)) out));
+    t_written x b u w = record {
+      is = w ∙ sym (through (Ok x) u);
+      within = told_within b w (sound (written_shaped (read (in_version x.version) (take x.count ws)) out));
+      kept = told_kept b w (sound (written_shaped (read (in_version x.version) (take x.count ws)) out));
     }
 
 -- the count of an answer, and none of a refusal
-pub c_refusal : {a : Answer} {e p : ℕ} → a ≡ Refusal e p → Counts a 0
+pub counted : (a : Result ℕ Refusal) {n : ℕ} → n ≡ result_unwrap_or a 0 → Counts a n
 unfolding reply_of count_of
-c_refusal k = record { is = sym (ap (λ x. count_of (reply_of x)) k) }
-
-pub c_count : {a : Answer} {n : ℕ} → a ≡ Count n → Counts a n
-unfolding reply_of count_of
-c_count k = record { is = sym (ap (λ x. count_of (reply_of x)) k) }
+counted (Ok n) e = record { is = e }
+counted (Err x) e = record { is = e }
 
 within_most : {m : ℕ} {r : Reply ℕ} → Within m r → count_of r ≤ m
 unfolding count_of
@@ -92,7 +87,7 @@ within_most (counting h) = h
 within_most refusing = omega arith
 
 -- the part of the image that is shown
-pub a_inside : {a : Answer} {r : ℕ} {bs out o : List ℕ} → Counts a r → Translates bs out a o → r ≤ length o
+pub a_inside : {a : Result ℕ Refusal} {r : ℕ} {bs out o : List ℕ} → Counts a r → Translates bs out a o → r ≤ length o
 a_inside c t = rw (t.kept, c.is) (within_most t.within)
 
 -- what is shown of a reply is the text of the outcome
@@ -101,7 +96,7 @@ unfolding outcome_text count_of reply_text
 reply_text_is (success n) ws = refl
 reply_text_is (refusal e p) ws = refl
 
-pub a_shown : (bs text : List ℕ) (a : Answer) {r : ℕ} {o : List ℕ} {x : Outcome ℕ} → Counts a r → Translates bs image_zeros a o
+pub a_shown : (bs text : List ℕ) (a : Result ℕ Refusal) {r : ℕ} {o : List ℕ} {x : Outcome ℕ} → Counts a r → Translates bs image_zeros a o
     → x ≡ filled (reply_text (reply_of a) (take r o)) text → x ≡ filled (answer_text bs) text
 unfolding answer_text
 a_shown bs text a {r} {o} c t e =
@@ -109,13 +104,15 @@ a_shown bs text a {r} {o} c t e =
     ∙ ap (λ x. filled (outcome_text x.reply x.output) text) t.is
 
 -- the part of the text that is printed
-pub p_inside : {a : Answer} {r : ℕ} {o : List ℕ} (ws text : List ℕ) → Counts a r → told a o ≡ filled ws text → r ≤ length o
+pub p_inside : {a : Result ℕ Refusal} {r : ℕ} {o : List ℕ} (ws text : List ℕ) → Counts a r → told a o ≡ filled ws text → r ≤ length o
 p_inside {a} ws text c e = rw (told_kept a e (sound (filled_shaped ws text)), c.is) (within_most (told_within a e (sound (filled_shaped ws text))))
 
 -- a part is as long as was counted
 pub taken : (n : ℕ) (l : List ℕ) → n ≤ length l → n ≡ length (take n l)
 taken n l h = sym (length-take-le n l h)
 
--- what arrived stands inside the buffer
-pub i_inside : {i : Input} {n m : ℕ} → i ≡ Arrived n → arrived_of i ≤ m → n ≤ m
-i_inside {m = m} k h = subst (λ x. arrived_of x ≤ m) k h
+-- the part of an output that is counted of an image
+pub written_inside : (S : Setting) (ws out : List ℕ) {n : ℕ} {o : List ℕ} → told (Ok n) o ≡ written (read S ws) out → n ≤ length o
+unfolding reply_of
+written_inside S ws out {n} e =
+    let x = sound (written_shaped (read S ws) out) in rw (told_kept (Ok n) e x) (count_within (told_within (Ok n) e x))

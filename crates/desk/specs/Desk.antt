@@ -1,10 +1,10 @@
 -- What the bench program makes of the bytes that arrive, and what it prints: document 01, "Worked rules", the last paragraph.
-use Rattle.std.specs.Prelude.{ℕ, ◌≤◌, cond, ◌≡◌, List, [], ltb, length, take, replicate}
+use Rattle.std.specs.Prelude.{ℕ, ◌≤◌, cond, ◌≡◌, List, [], ltb, length, take, replicate, Result}
 use Rattle.language.specs.Setting.{in_version}
 use Rattle.language.specs.Limits.{most_words, most_image_words}
 use Rattle.language.specs.Read.{no_place, read}
 use Rattle.language.specs.Calls.{Reply, success, refusal, Outcome, refuses, written, reply_of, told}
-use Rattle.language.specs.declared.Answer.{Answer}
+use Rattle.language.specs.declared.Refusal.{Refusal}
 use Rattle.listing.specs.Text.{reply_text}
 use Rattle.files.specs.Files.{unpacking}
 use Rattle.files.specs.declared.Form.TheVariants.{Rules}
@@ -52,11 +52,11 @@ pub data Within (m : ℕ) : Reply ℕ → Type 0 where
   refusing : {e p : ℕ} → Within m (refusal e p)
 
 -- the answer and the output are the definition's; the answer counts no more than the output holds, and the output is as long as it was
-pub record Translates (bs out : List ℕ) (a : Answer) (o : List ℕ) : Type 0 where
+pub record Translates (bs out : List ℕ) (a : Result ℕ Refusal) (o : List ℕ) : Type 0 where
   pub is : told a o ≡ translated bs out
   pub within : Within (length out) (reply_of a)
   pub kept : length o ≡ length out
 
 -- r is the answer's count, and 0 of a refusal
-pub record Counts (a : Answer) (r : ℕ) : Type 0 where
+pub record Counts (a : Result ℕ Refusal) (r : ℕ) : Type 0 where
   pub is : r ≡ count_of (reply_of a)

@@ -17,7 +17,8 @@ use Rattle.language.proofs.Clash.{never}
 use Rattle.files.specs.Files.{mark_l, mark_r, third, most, header_bytes, header, bytes_of, packed, words_at, version_in, count_in, marked, packing, taking, versed, unpacking}
 use Rattle.files.specs.Promises.{Bytes, PackedUnpacks, AcceptedArePacked}
 use Rattle.files.specs.declared.Form.{Form}
-use Rattle.files.proofs.Calls.{packed_length, words_at_length}
+use Rattle.files.proofs.Stores.{words_at_length}
+use Rattle.files.proofs.Calls.{packed_length}
 
 -- a test that a call which succeeded passed: it held, or it did not
 module _ (b : Bool) (x : Outcome ℕ) (e : ℕ) (out : List ℕ) {n : ℕ} where

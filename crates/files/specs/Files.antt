@@ -1,14 +1,15 @@
 -- The two file forms: document 01, "Checks in order", the paragraph on files; and document 02, Wish 13. "Files carry the version; unpacking reports
 -- it and every call on words is told it."
-use Rattle.std.specs.Prelude.{ℕ, zero, suc, ◌+◌, ◌*◌, ◌/◌, ◌%◌, Bool, cond, ◌&&◌, not, List, [], ◌∷◌, ◌++◌, ltb, eqb, length, get_or}
+use Rattle.std.specs.Prelude.{ℕ, zero, suc, ◌+◌, ◌*◌, ◌/◌, ◌%◌, Bool, cond, ◌&&◌, not, List, [], ◌∷◌, ◌++◌, ltb, eqb, length, get_or, Result, Ok, Err}
+use Rattle.language.specs.Faults.{number_of}
 use Rattle.language.specs.Kinds.{known}
 use Rattle.language.specs.Limits.{most_words, most_image_words}
 use Rattle.language.specs.Read.{no_place}
 use Rattle.language.specs.Calls.{Reply, success, refusal, Outcome, refuses, filled}
+use Rattle.language.specs.declared.Refusal.{Refusal}
 use Rattle.files.specs.declared.Form.{Form}
 use Rattle.files.specs.declared.Form.TheVariants.{Rules, Images}
 use Rattle.files.specs.declared.Unpacked.{Unpacked}
-use Rattle.files.specs.declared.Unpacked.TheVariants.{Words, Refusal}
 
 -- "mark LRS (rules) or LRI (images)": L and R, and the third letter
 abbrev pub mark_l : ℕ
@@ -94,9 +95,9 @@ unfoldable pub unpacking : Form → List ℕ → List ℕ → Outcome (ℕ × �
 unpacking f bs out = record { reply = versed (version_in bs) (taking f bs out).reply; output = (taking f bs out).output }
 
 -- what the code's answer to unpacking means, and what it means with the output that the call left
-unfoldable pub unpacked_reply : Unpacked → Reply (ℕ × ℕ)
-unpacked_reply (Words v n) = success (v, n)
-unpacked_reply (Refusal e p) = refusal e p
+unfoldable pub unpacked_reply : Result Unpacked Refusal → Reply (ℕ × ℕ)
+unpacked_reply (Ok u) = success (u.version, u.count)
+unpacked_reply (Err r) = refusal (number_of r.fault) r.place
 
-abbrev pub told_unpacked : Unpacked → List ℕ → Outcome (ℕ × ℕ)
+abbrev pub told_unpacked : Result Unpacked Refusal → List ℕ → Outcome (ℕ × ℕ)
 told_unpacked a out = record { reply = unpacked_reply a; output = out }

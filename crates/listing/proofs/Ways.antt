@@ -1,6 +1,6 @@
 -- The ways out of the functions that make text, in the words of the code: one law for each.
 -- Assumes nothing.
-use Prim.Native.Nat.{ℕ, zero, suc, ◌+◌, ◌-◌, ◌*◌, ◌/◌, ◌%◌, ◌^◌, ◌<◌, ◌≤◌}
+use Prim.Native.Nat.{ℕ, zero, suc, ◌+◌, ◌-◌, ◌*◌, ◌/◌, ◌^◌, ◌<◌, ◌≤◌}
 use mathlib.Core.Path.{◌≡◌, refl, sym, ap, ◌∙◌, subst}
 use mathlib.Core.Bool.{Bool, true, false, cond}
 use mathlib.Core.List.{List, [], ◌∷◌, ◌++◌, append_assoc}
@@ -8,41 +8,20 @@ use native.Mathlib.Omega.{arith}
 use native.Mathlib.Nat.{le_antisymm, pow-le-pow_right}
 use native.Mathlib.Numerals.{add-one, towards_suc}
 use lib.Dec.{ltb}
-use lib.ListN.{length, get_or, take, drop, set, length-append, length-set, drop_of_length-le}
+use lib.ListN.{length, get_or, take, drop, set, length-append, drop_of_length-le}
 use lib.Seq.{sets, sets-eq, drop-cons, drop-drop}
 use borrow.Rule.Slice.PartMut.{put_mid}
-use borrow.Author.Tests.{ltb-true, ltb-false, lt-ltb, le-ltb, eq-eqb, ne_eqb}
+use borrow.Author.Tests.{ltb-true, ltb-false}
+use Rattle.std.specs.Prelude.{Result, Ok, Err}
 use Rattle.io.specs.Counts.{IsPrefixLen}
 use Rattle.io.specs.Digits.{last_digits, IsDigitCount}
+use Rattle.language.specs.Faults.{number_of}
 use Rattle.language.specs.Read.{no_place}
 use Rattle.language.specs.Calls.{Outcome, reply_of, told, filled}
-use Rattle.language.specs.declared.Answer.{Answer}
-use Rattle.language.specs.declared.Answer.TheVariants.{Count, Refusal}
+use Rattle.language.specs.declared.Fault.TheVariants.{NoRoom}
+use Rattle.language.specs.declared.Refusal.{Refusal}
 use Rattle.language.proofs.Stores.{store_more, store_last, store_rest, filled_short, filled_whole}
-use Rattle.listing.specs.Spelled.{Spelled}
-use Rattle.listing.specs.Text.{space, newline, hex_digit, end_of, word_text, listed, enough, places_of, decimal_text, number_text, ok_text, no_text, line, reply_text}
-
--- a digit
-pub below_ten : (d : ℕ) → d < 10 → 48 + d ≡ hex_digit d
-below_ten d h = simp (lt-ltb d 10 h)
-
-pub from_ten : (d : ℕ) → 10 ≤ d → 55 + d ≡ hex_digit d
-from_ten d h = simp (le-ltb d 10 h)
-
--- what stands after a word
-pub last_word : (n i : ℕ) → i + 1 ≡ n → newline ≡ end_of n i
-last_word n i e = simp (eq-eqb (i + 1) n e)
-
-pub line_full : (n i : ℕ) → (i + 1 ≡ n → ⊥) → i % 8 ≡ 7 → newline ≡ end_of n i
-line_full n i k e = simp (ne_eqb (i + 1) n k, eq-eqb (i % 8) 7 e)
-
-pub within_line : (n i : ℕ) → (i + 1 ≡ n → ⊥) → (i % 8 ≡ 7 → ⊥) → space ≡ end_of n i
-within_line n i k e = simp (ne_eqb (i + 1) n k, ne_eqb (i % 8) 7 e)
-
--- a word's text
-pub word_stored : (l : List ℕ) (at w e : ℕ) {a b c d : ℕ} → a ≡ hex_digit (w / 4096) → b ≡ hex_digit (w / 256 % 16) → c ≡ hex_digit (w / 16 % 16)
-    → d ≡ hex_digit (w % 16) → set (set (set (set (set l at a) (at + 1) b) (at + 2) c) (at + 3) d) (at + 4) e ≡ sets l at (word_text w e)
-word_stored l at w e p q r s = rw (p, q, r, s) (simp towards_suc)
+use Rattle.listing.specs.Text.{space, newline, end_of, word_text, listed, enough, places_of, decimal_text, number_text, ok_text, no_text, line, reply_text}
 
 -- the loop over words: what is still to be stored, stored from where the loop is, gives the whole
 pub next_word : (o goal ws : List ℕ) (at n i : ℕ) {o' : List ℕ} {e : ℕ} → o' ≡ sets o (at + 5 * i) (word_text (get_or ws i 0) e) → e ≡ end_of n i
@@ -81,23 +60,26 @@ no_more n j k o m f =
     let z : j < k → ⊥ = λ h. omega (arith, f.2 (omega arith), pow-le-pow_right {n = 10} (omega arith) {i = j} {j = k - 1} (omega arith)) in
     omega arith
 
-pub spelled : (n k : ℕ) (t : List ℕ) → n < 2 ^ 64 → IsPrefixLen k t → IsDigitCount 10 1 n k → take k t ≡ last_digits 10 k n → Spelled n k t
+digits_are : (n k : ℕ) → IsDigitCount 10 1 n k → last_digits 10 k n ≡ decimal_text n
 unfolding decimal_text
-spelled n k t m c f e =
+digits_are n k f =
     let g : IsDigitCount 10 1 n (places_of n) = fewest n in
     let q : k ≡ places_of n = le_antisymm (no_more n (places_of n) k g.0 g.1 f) (no_more n k (places_of n) f.0 f.1 g) in
-    record { few = no_more n 20 k (omega arith) (omega arith) f; counts = c; is = e ∙ ap (λ j. last_digits 10 j n) q }
+    ap (λ j. last_digits 10 j n) q
 
-spelled_length : {n k : ℕ} {t : List ℕ} → Spelled n k t → length (decimal_text n) ≡ k
-spelled_length x = ap length (sym x.is) ∙ sym x.counts.1
+-- the digits at the front of a buffer
+pub spelled : (n k : ℕ) (t : List ℕ) → IsDigitCount 10 1 n k → take k t ≡ last_digits 10 k n → take k t ≡ decimal_text n
+spelled n k t f e = e ∙ digits_are n k f
 
--- a space and a number: the digits are stored behind the space
-copied : (l ds : List ℕ) (at : ℕ) → at + length ds ≤ length l → put_mid at (length ds) l ds ≡ sets l at ds
-copied l ds at h = rw (drop-drop, sets-eq ds l at h, append_assoc)
+pub spelled_few : (n k : ℕ) (t : List ℕ) → n < 2 ^ 64 → IsPrefixLen k t → IsDigitCount 10 1 n k → length (take k t) ≤ 20
+spelled_few n k t m c f = let l : k ≤ 20 = no_more n 20 k (omega arith) (omega arith) f in omega (arith, c.1)
 
-pub number_stored : (l ds : List ℕ) (at n : ℕ) {o : List ℕ} → at + 1 + length ds ≤ length l → o ≡ ds → n ≡ length ds
-    → put_mid (at + 1) n (set l at space) o ≡ sets l at (space ∷ ds)
-number_stored l ds at n h e k = rw (e, k) (copied (set l at space) ds (at + 1) (simp length-set (omega arith)) ∙ simp towards_suc)
+-- a text stored at a place; and a number behind a space
+pub text_stored : (l ds : List ℕ) (at n : ℕ) {o : List ℕ} → at + length ds ≤ length l → o ≡ ds → n ≡ length ds → put_mid at n l o ≡ sets l at ds
+text_stored l ds at n h e k = rw (e, k) (rw (drop-drop, sets-eq ds l at h, append_assoc))
+
+pub number_stored : (l ds : List ℕ) (at : ℕ) {o : List ℕ} → o ≡ sets (set l at space) (at + 1) ds → o ≡ sets l at (space ∷ ds)
+number_stored l ds at e = e ∙ simp towards_suc
 
 -- a line: its start is stored, and its end behind it
 line_length : (start : List ℕ) → length (line start) ≡ length start + 1
@@ -106,55 +88,66 @@ line_length start = length-append start (newline ∷ [])
 line_stored : (out start : List ℕ) {o : List ℕ} {n : ℕ} → o ≡ sets out 0 start → n ≡ length start → set o n newline ≡ sets out 0 (line start)
 line_stored out start e k = store_last out 0 start newline e (omega arith)
 
--- the reply of a refusal
-module _ (e p : ℕ) (out : List ℕ) {k j : ℕ} {s t : List ℕ} (x : Spelled e k s) (y : Spelled p j t) where
-  refusal_length : length (no_text e ++ number_text p) ≡ 3 + k + 1 + j
-  refusal_length = simp length-append (omega (arith, spelled_length x, spelled_length y))
+-- a refusal where there is too little room
+too_short : (ws out : List ℕ) {x : Refusal} → length out < length ws → x ≡ record { fault = NoRoom; place = no_place } → told {A = ℕ} (Err x) out ≡ filled ws out
+too_short ws out h i = rw i (filled_short ws out h)
 
-  ended : length (line (no_text e ++ number_text p)) ≡ 3 + k + 1 + j + 1
+-- the reply of a refusal
+module _ (e p : ℕ) (out : List ℕ) {ds es : List ℕ} (x : ds ≡ decimal_text e) (y : es ≡ decimal_text p) where
+  refusal_length : length (no_text e ++ number_text p) ≡ 3 + length ds + 1 + length es
+  refusal_length = simp length-append (omega (arith, ap length x, ap length y))
+
+  ended : length (line (no_text e ++ number_text p)) ≡ 3 + length ds + 1 + length es + 1
   ended = omega (arith, line_length (no_text e ++ number_text p), refusal_length)
 
-  pub refusal_short : length out ≤ 3 + k + 1 + j → told (Refusal 9 no_place) out ≡ filled (line (no_text e ++ number_text p)) out
-  refusal_short h = filled_short (line (no_text e ++ number_text p)) out (omega (arith, ended))
+  pub refusal_short : {q : Refusal} → length out ≤ 3 + length ds + 1 + length es → q ≡ record { fault = NoRoom; place = no_place }
+      → told {A = ℕ} (Err q) out ≡ filled (line (no_text e ++ number_text p)) out
+  refusal_short h i = too_short (line (no_text e ++ number_text p)) out (omega (arith, ended)) i
 
-  pub refusal_whole : {o o' : List ℕ} → 3 + k + 1 + j < length out → o ≡ sets out 0 (110 ∷ 111 ∷ space ∷ take k s)
-      → o' ≡ sets o (3 + k) (space ∷ take j t)
-      → told (Count (3 + k + 1 + j + 1)) (set o' (3 + k + 1 + j) newline) ≡ filled (line (no_text e ++ number_text p)) out
-  refusal_whole h f g =
+  pub refusal_whole : {o o' o'' : List ℕ} → 3 + length ds + 1 + length es < length out → o ≡ sets out 0 (110 ∷ 111 ∷ [])
+      → o' ≡ sets o 2 (space ∷ ds) → o'' ≡ sets o' (3 + length ds) (space ∷ es)
+      → told (Ok (3 + length ds + 1 + length es + 1)) (set o'' (3 + length ds + 1 + length es) newline)
+      ≡ filled (line (no_text e ++ number_text p)) out
+  refusal_whole h f g k =
       filled_whole (line (no_text e ++ number_text p)) out (omega (arith, ended)) (sym ended)
       (line_stored out (no_text e ++ number_text p)
-      (store_more out 0 (no_text e) (number_text p) (rw x.is at f) (omega (arith, spelled_length x)) (rw y.is at g)) (sym refusal_length))
+      (store_more out 0 (no_text e) (number_text p)
+      (store_more out 0 (110 ∷ 111 ∷ []) (number_text e) f refl (rw x at g))
+      (omega (arith, ap length x)) (rw y at k)) (sym refusal_length))
 
 -- the reply with an image's words
-module _ (n : ℕ) (ws out : List ℕ) {k : ℕ} {s : List ℕ} (x : Spelled n k s) where
-  start_length : length (ok_text n) ≡ 3 + k
-  start_length = omega (arith, spelled_length x)
+module _ (n : ℕ) (ws out : List ℕ) {ds : List ℕ} (x : ds ≡ decimal_text n) where
+  start_length : length (ok_text n) ≡ 3 + length ds
+  start_length = omega (arith, ap length x)
 
-  text_length : length (line (ok_text n) ++ listed (length ws) 0 ws) ≡ 3 + k + 1 + 5 * length ws
+  text_length : length (line (ok_text n) ++ listed (length ws) 0 ws) ≡ 3 + length ds + 1 + 5 * length ws
   text_length = simp length-append (omega (arith, start_length, listed_length (length ws) 0 ws))
 
-  pub image_short : length out ≤ 3 + k → told (Refusal 9 no_place) out ≡ filled (line (ok_text n) ++ listed (length ws) 0 ws) out
-  image_short h = filled_short (line (ok_text n) ++ listed (length ws) 0 ws) out (omega (arith, text_length))
+  pub image_short : {q : Refusal} → length out ≤ 3 + length ds → q ≡ record { fault = NoRoom; place = no_place }
+      → told {A = ℕ} (Err q) out ≡ filled (line (ok_text n) ++ listed (length ws) 0 ws) out
+  image_short h i = too_short (line (ok_text n) ++ listed (length ws) 0 ws) out (omega (arith, text_length)) i
 
-  pub words_too_many : 3 + k < length out → (length out - (3 + k) - 1) / 5 < length ws
-      → told (Refusal 9 no_place) out ≡ filled (line (ok_text n) ++ listed (length ws) 0 ws) out
-  words_too_many l h = filled_short (line (ok_text n) ++ listed (length ws) 0 ws) out (omega (arith, text_length))
+  pub words_too_many : {q : Refusal} → 3 + length ds < length out → (length out - (3 + length ds) - 1) / 5 < length ws
+      → q ≡ record { fault = NoRoom; place = no_place } → told {A = ℕ} (Err q) out ≡ filled (line (ok_text n) ++ listed (length ws) 0 ws) out
+  words_too_many l h i = too_short (line (ok_text n) ++ listed (length ws) 0 ws) out (omega (arith, text_length)) i
 
-  pub image_whole : {o o' : List ℕ} → 3 + k < length out → length ws ≤ (length out - (3 + k) - 1) / 5
-      → o ≡ sets out 0 (111 ∷ 107 ∷ space ∷ take k s) → o' ≡ sets (set o (3 + k) newline) (3 + k + 1) (listed (length ws) 0 ws)
-      → told (Count (3 + k + 1 + 5 * length ws)) o' ≡ filled (line (ok_text n) ++ listed (length ws) 0 ws) out
-  image_whole l h f g =
+  pub image_whole : {o o' o'' : List ℕ} → 3 + length ds < length out → length ws ≤ (length out - (3 + length ds) - 1) / 5
+      → o ≡ sets out 0 (111 ∷ 107 ∷ []) → o' ≡ sets o 2 (space ∷ ds)
+      → o'' ≡ sets (set o' (3 + length ds) newline) (3 + length ds + 1) (listed (length ws) 0 ws)
+      → told (Ok (3 + length ds + 1 + 5 * length ws)) o'' ≡ filled (line (ok_text n) ++ listed (length ws) 0 ws) out
+  image_whole l h f g k =
       filled_whole (line (ok_text n) ++ listed (length ws) 0 ws) out (omega (arith, text_length)) (sym text_length)
-      (store_more out 0 (line (ok_text n)) (listed (length ws) 0 ws) (line_stored out (ok_text n) (rw x.is at f) (sym start_length))
-      (omega (arith, line_length (ok_text n), start_length)) g)
+      (store_more out 0 (line (ok_text n)) (listed (length ws) 0 ws)
+      (line_stored out (ok_text n) (store_more out 0 (111 ∷ 107 ∷ []) (number_text n) f refl (rw x at g)) (sym start_length))
+      (omega (arith, line_length (ok_text n), start_length)) k)
 
 -- the whole answer, by the reply
-pub refusal_shown : {a : Answer} {e p : ℕ} {x : Outcome ℕ} (ws out : List ℕ) → x ≡ filled (line (no_text e ++ number_text p)) out → a ≡ Refusal e p
-    → x ≡ filled (reply_text (reply_of a) ws) out
+pub refusal_shown : {a : Result ℕ Refusal} {q : Refusal} {x : Outcome ℕ} (ws out : List ℕ)
+    → x ≡ filled (line (no_text (number_of q.fault) ++ number_text q.place)) out → a ≡ Err q → x ≡ filled (reply_text (reply_of a) ws) out
 unfolding reply_text reply_of
 refusal_shown ws out k h = rw h k
 
-pub image_shown : {a : Answer} {n : ℕ} {x : Outcome ℕ} (ws out : List ℕ) → x ≡ filled (line (ok_text n) ++ listed (length ws) 0 ws) out → a ≡ Count n
+pub image_shown : {a : Result ℕ Refusal} {n : ℕ} {x : Outcome ℕ} (ws out : List ℕ) → x ≡ filled (line (ok_text n) ++ listed (length ws) 0 ws) out → a ≡ Ok n
     → x ≡ filled (reply_text (reply_of a) ws) out
 unfolding reply_text reply_of
 image_shown ws out k h = rw h k

@@ -4,11 +4,11 @@
 
 ghost use Rattle.std.specs.Prelude.{◌≡◌, ◌+◌, ◌*◌, ◌≤◌, ◌<◌, ◌∷◌, ◌++◌, length};
 ghost use Rattle.std.proofs.lemmas.List.Edits.{sets};
+ghost use Rattle.language.specs.Faults.{number_of};
 ghost use Rattle.language.specs.Calls.{reply_of, told, filled};
-ghost use Rattle.listing.specs.Spelled.{Spelled};
-ghost use Rattle.listing.specs.Text.{space, hex_digit, end_of, word_text, listed, number_text, ok_text, no_text, line, reply_text};
+ghost use Rattle.listing.specs.Text.{space, hex_digit, end_of, word_text, listed, decimal_text, number_text, ok_text, no_text, line, reply_text};
 
-use language::Answer;
+use language::{Fault, Refusal};
 
 const SPACE: u8 = b' ';
 
@@ -19,8 +19,8 @@ const WORD_BYTES: usize = 5;
 
 const WORDS_TO_A_LINE: usize = 8;
 
-// The bytes before a line's first digit: two letters and a space.
-const START_BYTES: usize = 3;
+// A reply begins with `ok` or `no`.
+const REPLY_BYTES: usize = 2;
 
 // The most decimal digits of a number of 64 bits.
 const MOST_DIGITS: usize = 20;
@@ -49,16 +49,28 @@ fn end_of(n: usize, i: usize) -> u8
     SPACE
 }
 
+// A text at a place.
+#[tactic(auto, using(crate::proofs::Ways::text_stored))]
+fn put_text(out: &mut [u8], at: usize, text: &[u8])
+    requires { at + length text.now ≤ length out.old }
+    ensures { out.new ≡ sets out.old at text.now }
+{
+    out[at..at + text.len()].copy_from_slice(text);
+}
+
 // A word's four digits, and what stands after them.
 pub fn put_word(out: &mut [u8], at: usize, w: u16, end: u8)
     requires { at + 5 ≤ length out.old }
     ensures { out.new ≡ sets out.old at (word_text w end) }
 {
-    out[at] = hex_digit(w / 4096);
-    out[at + 1] = hex_digit(w / 256 % 16);
-    out[at + 2] = hex_digit(w / 16 % 16);
-    out[at + 3] = hex_digit(w % 16);
-    out[at + 4] = end;
+    let text = [
+        hex_digit(w / 4096),
+        hex_digit(w / 256 % 16),
+        hex_digit(w / 16 % 16),
+        hex_digit(w % 16),
+        end,
+    ];
+    put_text(out, at, &text);
 }
 
 // The words, eight to a line.
@@ -67,19 +79,19 @@ pub fn put_words(out: &mut [u8], at: usize, words: &[u16])
     ensures { out.new ≡ sets out.old at (listed (length words.now) 0 words.now) }
 {
     let n = words.len();
-    let mut i = 0;
-    while i < n {
-        put_word(out, at + WORD_BYTES * i, words[i], end_of(n, i));
-        i += 1;
+    for (i, word) in words.iter().enumerate() {
+        put_word(out, at + WORD_BYTES * i, *word, end_of(n, i));
     }
 }
 
-// A number's decimal digits, at the front of the buffer, and how many there are.
-#[tactic(auto, using(crate::proofs::Ways::spelled))]
-fn spell(buffer: &mut [u8; MOST_DIGITS], n: u64) -> usize
-    ensures { Spelled n result buffer.new }
+// A number's decimal digits, which stand at the front of the buffer.
+#[tactic(auto, using(crate::proofs::Ways::spelled, crate::proofs::Ways::spelled_few))]
+fn digits(buffer: &mut [u8; MOST_DIGITS], n: u64) -> &[u8]
+    ensures few { length result.now ≤ 20 }
+    ensures spelled { result.now ≡ decimal_text n }
 {
-    io::decimal(n, buffer)
+    let count = io::decimal(n, buffer);
+    &buffer[..count]
 }
 
 // A space and a number's digits.
@@ -89,68 +101,57 @@ fn put_number(out: &mut [u8], at: usize, digits: &[u8])
     ensures { out.new ≡ sets out.old at (space ∷ digits.now) }
 {
     out[at] = SPACE;
-    let from = at + 1;
-    let end = from + digits.len();
-    out[from..end].copy_from_slice(digits);
-}
-
-// The start of a line: two letters, a space and a number's digits.
-fn put_start(out: &mut [u8], a: u8, b: u8, digits: &[u8])
-    requires { 3 + length digits.now ≤ length out.old }
-    ensures { out.new ≡ sets out.old 0 (a ∷ b ∷ space ∷ digits.now) }
-{
-    out[0] = a;
-    out[1] = b;
-    put_number(out, 2, digits);
+    put_text(out, at + 1, digits);
 }
 
 // A refusal's number and its place.
 #[tactic(auto, using(crate::proofs::Ways::refusal_short, crate::proofs::Ways::refusal_whole))]
-fn show_refusal(out: &mut [u8], e: u8, p: usize) -> Answer
-    ensures { told result out.new ≡ filled (line (no_text e ++ number_text p)) out.old }
+fn show_refusal(out: &mut [u8], refusal: Refusal) -> Result<usize, Refusal>
+    ensures { told result out.new ≡ filled (line (no_text (number_of refusal.fault) ++ number_text refusal.place)) out.old }
 {
-    let mut number = [0u8; MOST_DIGITS];
-    let digits = spell(&mut number, e as u64);
-    let mut place = [0u8; MOST_DIGITS];
-    let more = spell(&mut place, p as u64);
-    let next = START_BYTES + digits;
-    let end = next + 1 + more;
+    let (mut number_buffer, mut place_buffer) = ([0; MOST_DIGITS], [0; MOST_DIGITS]);
+    let number = digits(&mut number_buffer, refusal.fault.number() as u64);
+    let place = digits(&mut place_buffer, refusal.place as u64);
+    let next = REPLY_BYTES + 1 + number.len();
+    let end = next + 1 + place.len();
     if out.len() <= end {
-        return Answer::Refusal(language::NO_ROOM, language::NO_PLACE);
+        return Err(Fault::NoRoom.into());
     }
-    put_start(out, b'n', b'o', &number[..digits]);
-    put_number(out, next, &place[..more]);
+    put_text(out, 0, b"no");
+    put_number(out, REPLY_BYTES, number);
+    put_number(out, next, place);
     out[end] = NEWLINE;
-    Answer::Count(end + 1)
+    Ok(end + 1)
 }
 
 // An image's count and its words.
-#[tactic(auto, using(crate::proofs::Ways::image_short, crate::proofs::Ways::words_too_many, crate::proofs::Ways::image_whole))]
-fn show_image(out: &mut [u8], n: usize, words: &[u16]) -> Answer
+#[tactic(auto, using(crate::proofs::Ways::image_short, crate::proofs::Ways::words_too_many))]
+fn show_image(out: &mut [u8], n: usize, words: &[u16]) -> Result<usize, Refusal>
     ensures { told result out.new ≡ filled (line (ok_text n) ++ listed (length words.now) 0 words.now) out.old }
 {
-    let mut number = [0u8; MOST_DIGITS];
-    let digits = spell(&mut number, n as u64);
-    let end = START_BYTES + digits;
+    let mut buffer = [0; MOST_DIGITS];
+    let number = digits(&mut buffer, n as u64);
+    let end = REPLY_BYTES + 1 + number.len();
     if out.len() <= end {
-        return Answer::Refusal(language::NO_ROOM, language::NO_PLACE);
+        return Err(Fault::NoRoom.into());
     }
     if (out.len() - end - 1) / WORD_BYTES < words.len() {
-        return Answer::Refusal(language::NO_ROOM, language::NO_PLACE);
+        return Err(Fault::NoRoom.into());
     }
-    put_start(out, b'o', b'k', &number[..digits]);
+    put_text(out, 0, b"ok");
+    put_number(out, REPLY_BYTES, number);
     out[end] = NEWLINE;
     put_words(out, end + 1, words);
-    Answer::Count(end + 1 + WORD_BYTES * words.len())
+    Ok(end + 1 + WORD_BYTES * words.len())
 }
 
 // The bench program's whole answer, at the front of the output: a line with the reply, and on success the image's words.
 #[tactic(auto, using(crate::proofs::Ways::refusal_shown, crate::proofs::Ways::image_shown))]
-pub fn show(out: &mut [u8], answer: Answer, words: &[u16]) -> Answer
+pub fn show(out: &mut [u8], answer: Result<usize, Refusal>, words: &[u16]) -> Result<usize, Refusal>
     ensures { told result out.new ≡ filled (reply_text (reply_of answer) words.now) out.old }
 {
     match answer {
-        Answer::Refusal(e, p) => show_refusal(out, e, p),
-        Answer::Count(n) => show_image(out, n, words),
+        Ok(n) => show_image(out, n, words),
+        Err(refusal) => show_refusal(out, refusal),
     }
 }

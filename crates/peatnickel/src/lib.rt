@@ -7,12 +7,14 @@
 ghost use Rattle.std.specs.Prelude.{◌≡◌, ◌≤◌};
 ghost use Rattle.language.specs.Setting.{in_version};
 ghost use Rattle.language.specs.Limits.{most_words};
+ghost use Rattle.language.specs.Faults.{number_of};
+ghost use Rattle.language.specs.Calls.{reply_of};
+ghost use Rattle.files.specs.Files.{unpacked_reply};
 ghost use Rattle.peatnickel.specs.Numbers.{Small, SmallUnpacked, answer_of, unpacked_of, form_of, refusal_number};
 ghost use Rattle.peatnickel.specs.Calls.{Asked, Means};
 
 use files::{Form, Unpacked};
-use language::Answer;
-use reading::Checked;
+use language::Refusal;
 
 // Where the refusals start, and what each place adds to a refusal's reply. Below are the counts.
 const REFUSALS: u32 = 65536;
@@ -31,64 +33,63 @@ const RULES: u32 = 0;
 
 const IMAGES: u32 = 1;
 
-// What a number tells of a file.
-#[derive(Clone, Copy)]
-enum Told {
-    Is(Form),
-    NoForm,
-}
-
-fn form_of(n: u32) -> Told
+// The form that a number tells.
+#[tactic(auto, using(crate::proofs::Ways::forms))]
+fn form_of(n: u32) -> Option<Form>
     ensures { result ≡ form_of n }
 {
     match n {
-        RULES => Told::Is(Form::Rules),
-        IMAGES => Told::Is(Form::Images),
-        _ => Told::NoForm,
+        RULES => Some(Form::Rules),
+        IMAGES => Some(Form::Images),
+        _ => None,
     }
 }
 
 // The number that means a refusal at a place.
-fn refused(e: u8, p: usize) -> u32
-    requires { p ≤ most_words }
-    ensures { result ≡ refusal_number e p }
+fn refused(refusal: Refusal) -> u32
+    requires { refusal.place ≤ most_words }
+    ensures { result ≡ refusal_number (number_of refusal.fault) refusal.place }
 {
-    REFUSALS + e as u32 + REFUSALS * p as u32
+    REFUSALS + refusal.fault.number() as u32 + REFUSALS * refusal.place as u32
 }
 
 // The number that means this answer.
-fn number(a: Answer) -> u32
-    requires { Small a }
-    ensures { answer_of result ≡ a }
+#[tactic(auto, using(crate::proofs::Ways::numbers))]
+fn number(answer: Result<usize, Refusal>) -> u32
+    requires { Small answer }
+    ensures { answer_of result ≡ reply_of answer }
 {
-    match a {
-        Answer::Count(n) => n as u32,
-        Answer::Refusal(e, p) => refused(e, p),
+    match answer {
+        Ok(count) => count as u32,
+        Err(refusal) => refused(refusal),
     }
 }
 
 // The number that means this answer of unpacking.
-fn unpacked_number(a: Unpacked) -> u64
-    requires { SmallUnpacked a }
-    ensures { unpacked_of result ≡ a }
+#[tactic(auto, using(crate::proofs::Ways::numbers))]
+fn unpacked_number(answer: Result<Unpacked, Refusal>) -> u64
+    requires { SmallUnpacked answer }
+    ensures { unpacked_of result ≡ unpacked_reply answer }
 {
-    match a {
-        Unpacked::Words(v, n) => VERSIONS * v as u64 + n as u64,
-        Unpacked::Refusal(e, p) => refused(e, p) as u64,
+    match answer {
+        Ok(unpacked) => VERSIONS * unpacked.version as u64 + unpacked.count as u64,
+        Err(refusal) => refused(refusal) as u64,
     }
 }
 
 // Whether the words are a rule.
+#[tactic(auto, using(crate::proofs::Ways::checks))]
 pub fn peatnickel_check(version: u16, words: &[u16]) -> u32
     ensures { Means (Asked.check (in_version version) words.now) result }
 {
     match rules::check(version, words) {
-        Checked::Success => SUCCESS,
-        Checked::Refusal(e, p) => refused(e, p),
+        Ok(()) => SUCCESS,
+        Err(reason) => refused(reason),
     }
 }
 
 // How many words the image of a rule has.
+#[tactic(auto, using(crate::proofs::Ways::s_measured))]
 pub fn peatnickel_measure(version: u16, words: &[u16]) -> u32
     ensures { Means (Asked.measure (in_version version) words.now) result }
 {
@@ -107,8 +108,8 @@ pub fn peatnickel_pack_apart(out: &mut [u8], form: u32, version: u16, words: &[u
     ensures { Means (Asked.pack form version words.now out.old) (result, out.new) }
 {
     match form_of(form) {
-        Told::NoForm => NO_FORM,
-        Told::Is(f) => number(rules::pack(out, f, version, words)),
+        Some(form) => number(rules::pack(out, form, version, words)),
+        None => NO_FORM,
     }
 }
 
@@ -117,7 +118,7 @@ pub fn peatnickel_unpack_apart(out: &mut [u16], form: u32, bytes: &[u8]) -> u64
     ensures { Means (Asked.unpack form bytes.now out.old) (result, out.new) }
 {
     match form_of(form) {
-        Told::NoForm => NO_FORM as u64,
-        Told::Is(f) => unpacked_number(rules::unpack(out, f, bytes)),
+        Some(form) => unpacked_number(rules::unpack(out, form, bytes)),
+        None => NO_FORM as u64,
     }
 }

@@ -1,3 +1,4 @@
 pub mod Ways
+pub mod Replies
 pub mod Meanings
 pub mod Promises

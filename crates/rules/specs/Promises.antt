@@ -1,5 +1,5 @@
 -- What a reader may rely on: demands 1 and 2, and the way from the words lent to demand 3's run, each of whatever outcome the contracts allow.
-use Rattle.std.specs.Prelude.{ℕ, ◌<◌, ◌≤◌, ◌≡◌, ◌↔◌, List, ◌++◌, length, take, drop}
+use Rattle.std.specs.Prelude.{ℕ, ◌<◌, ◌≤◌, ◌≡◌, ◌↔◌, List, ◌++◌, length, take, drop, Result, Ok}
 use Rattle.language.specs.Term.{rules, images, Term}
 use Rattle.language.specs.Setting.{Setting}
 use Rattle.language.specs.Words.{words}
@@ -7,30 +7,27 @@ use Rattle.language.specs.Limits.{Ranged}
 use Rattle.language.specs.Dead.{Live}
 use Rattle.language.specs.Image.{image}
 use Rattle.language.specs.Read.{no_place, read, accepted, refused}
-use Rattle.language.specs.Calls.{refusal}
-use Rattle.language.specs.declared.Answer.{Answer}
-use Rattle.language.specs.declared.Answer.TheVariants.{Count, Refusal}
+use Rattle.language.specs.Calls.{refusal, reply_of}
+use Rattle.language.specs.declared.Refusal.{Refusal}
 use Rattle.trust.specs.Promises.{Fit}
 use Rattle.meaning.specs.Promises.{Comes, FromRule}
-use Rattle.reading.specs.declared.Checked.TheVariants.{Success, Refusal as unchecked}
-use Rattle.files.specs.Files.{packing, unpacking}
-use Rattle.files.specs.declared.Unpacked.TheVariants as unpacked
-use Rattle.rules.specs.PublicCalls.{Call, check, measure, write, pack, unpack, Result, Allows}
+use Rattle.files.specs.Files.{packing, unpacking, unpacked_reply}
+use Rattle.rules.specs.PublicCalls.{Call, check, measure, write, pack, unpack, Returned, Allows}
 
 -- "prove that two outcomes allowed by it are equal": of every public call
 abbrev pub Determined : Type 0
-Determined = (c : Call) (x y : Result c) → Allows c x → Allows c y → x ≡ y
+Determined = (c : Call) (x y : Returned c) → Allows c x → Allows c y → x ≡ y
 
 -- the result r of a call is the refusal with the number e and the place p
-abbrev pub Refuses : (c : Call) → Result c → ℕ → ℕ → Type 0
-Refuses (check S ws) r e p = r ≡ unchecked e p
-Refuses (measure S ws) r e p = r ≡ Refusal e p
-Refuses (write S ws out) r e p = r.0 ≡ Refusal e p
-Refuses (pack f v ws out) r e p = r.0 ≡ Refusal e p
-Refuses (unpack f bs out) r e p = r.0 ≡ unpacked.Refusal e p
+abbrev pub Refuses : (c : Call) → Returned c → ℕ → ℕ → Type 0
+Refuses (check S ws) r e p = reply_of r ≡ refusal e p
+Refuses (measure S ws) r e p = reply_of r ≡ refusal e p
+Refuses (write S ws out) r e p = reply_of r.0 ≡ refusal e p
+Refuses (pack f v ws out) r e p = reply_of r.0 ≡ refusal e p
+Refuses (unpack f bs out) r e p = unpacked_reply r.0 ≡ refusal e p
 
 -- what a call with the result r was lent to write into is as it was; nothing of the kind is lent to the checking and to the measuring call
-abbrev pub Unchanged : (c : Call) → Result c → Type 0
+abbrev pub Unchanged : (c : Call) → Returned c → Type 0
 Unchanged (check S ws) r = Unit {0}
 Unchanged (measure S ws) r = Unit {0}
 Unchanged (write S ws out) r = r.1 ≡ out
@@ -54,21 +51,21 @@ Faulted (unpack f bs out) e p = (unpacking f bs out).reply ≡ refusal e p
 -- demand 1: every call, whatever it is told and whatever words or bytes and whatever output are lent to it, gets a reply; that is the refusal e at
 -- the place p exactly when the call's tests in order come to it; and a refusal "leaves all that was lent unchanged"
 pub record Replies (c : Call) : Type 0 where
-  pub replied : (r : Result c) × Allows c r
-  pub faulted : (r : Result c) (e p : ℕ) → Allows c r → Refuses c r e p ↔ Faulted c e p
-  pub unchanged : (r : Result c) (e p : ℕ) → Allows c r → Refuses c r e p → Unchanged c r
+  pub replied : (r : Returned c) × Allows c r
+  pub faulted : (r : Returned c) (e p : ℕ) → Allows c r → Refuses c r e p ↔ Faulted c e p
+  pub unchanged : (r : Returned c) (e p : ℕ) → Allows c r → Refuses c r e p → Unchanged c r
 
 abbrev pub Demand1 : Type 0
 Demand1 = (c : Call) → Replies c
 
 -- demand 2: an accepted rule's image is written word by word where it fits, and 9 is given only where it is longer than the output
-pub record Written (t : Term) (out o : List ℕ) (a : Answer) : Type 0 where
-  pub fits : length (words images (image t)) ≤ length out → (a ≡ Count (length (words images (image t))))
+pub record Written (t : Term) (out o : List ℕ) (a : Result ℕ Refusal) : Type 0 where
+  pub fits : length (words images (image t)) ≤ length out → (a ≡ Ok (length (words images (image t))))
       × (o ≡ words images (image t) ++ drop (length (words images (image t))) out)
-  pub longer : (p : ℕ) → a ≡ Refusal 9 p → length out < length (words images (image t))
+  pub longer : (p : ℕ) → reply_of a ≡ refusal 9 p → length out < length (words images (image t))
 
 abbrev pub Demand2 : Type 0
-Demand2 = (S : Setting) (ws out o : List ℕ) (a : Answer) (t : Term) → read S ws ≡ accepted t → Allows (write S ws out) (a, o) → Written t out o a
+Demand2 = (S : Setting) (ws out o : List ℕ) (a : Result ℕ Refusal) (t : Term) → read S ws ≡ accepted t → Allows (write S ws out) (a, o) → Written t out o a
 
 -- from the words lent to the run, demand 3 and document 02, Wish 10: the words at the front of the output are those of one term in an image's ranges
 -- alone, and that term comes to w exactly when the rule comes to a value with the carried form w, with as many lets and matches and the sum's
@@ -81,14 +78,14 @@ pub record Front (ws : List ℕ) : Type 0 where
 
 abbrev pub WrittenRuns : Type 0
 WrittenRuns =
-    (S : Setting) (ws out o : List ℕ) (n : ℕ) (t : Term) → Fit ws → read S ws ≡ accepted t → Allows (write S ws out) (Count n, o)
+    (S : Setting) (ws out o : List ℕ) (n : ℕ) (t : Term) → Fit ws → read S ws ≡ accepted t → Allows (write S ws out) (Ok n, o)
     → (f : Front (take n o)) × ((w : Term) (a l m : ℕ) → FromRule t w a l m ↔ Comes f.term w a l m)
 
 -- document 02, Wish 4: "Refuse such rules." No public call accepts the words of a term with a dead arm: none succeeds on them, whatever it is told
 pub record NoneAccepts (S : Setting) (ws : List ℕ) : Type 0 where
-  pub checks : Allows (check S ws) Success → ⊥
-  pub measures : (n : ℕ) → Allows (measure S ws) (Count n) → ⊥
-  pub writes : (n : ℕ) (out o : List ℕ) → Allows (write S ws out) (Count n, o) → ⊥
+  pub checks : Allows (check S ws) (Ok tt) → ⊥
+  pub measures : (n : ℕ) → Allows (measure S ws) (Ok n) → ⊥
+  pub writes : (n : ℕ) (out o : List ℕ) → Allows (write S ws out) (Ok n, o) → ⊥
 
 abbrev pub NoDeadArms : Type 0
 NoDeadArms = (S : Setting) (t : Term) → Ranged rules t → (Live t → ⊥) → NoneAccepts S (words rules t)

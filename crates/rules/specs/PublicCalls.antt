@@ -1,12 +1,10 @@
 -- The public calls and their contracts: document 01, "Checks in order" and "What a reader may rely on"; document 02, Wish 13: "every call on words is
 -- told" the version. One definition, `Allows`, says of every call which outcomes its contract allows; the code's contracts cite it.
-use Rattle.std.specs.Prelude.{ℕ, ◌≡◌, List}
+use Rattle.std.specs.Prelude.{ℕ, ◌≡◌, List, Result}
 use Rattle.language.specs.Setting.{Setting}
 use Rattle.language.specs.Read.{read}
 use Rattle.language.specs.Calls.{reply_of, told, checked, measured, written}
-use Rattle.language.specs.declared.Answer.{Answer}
-use Rattle.reading.specs.Answers.{checked_reply}
-use Rattle.reading.specs.declared.Checked.{Checked}
+use Rattle.language.specs.declared.Refusal.{Refusal}
 use Rattle.files.specs.Files.{packing, unpacking, told_unpacked}
 use Rattle.files.specs.declared.Form.{Form}
 use Rattle.files.specs.declared.Unpacked.{Unpacked}
@@ -21,15 +19,15 @@ pub data Call : Type 0 where
   unpack : Form → List ℕ → List ℕ → Call
 
 -- what comes of a call: its answer, and the output as the call left it
-abbrev pub Result : Call → Type 0
-Result (check S ws) = Checked
-Result (measure S ws) = Answer
-Result (write S ws out) = Answer × List ℕ
-Result (pack f v ws out) = Answer × List ℕ
-Result (unpack f bs out) = Unpacked × List ℕ
+abbrev pub Returned : Call → Type 0
+Returned (check S ws) = Result (Unit {0}) Refusal
+Returned (measure S ws) = Result ℕ Refusal
+Returned (write S ws out) = Result ℕ Refusal × List ℕ
+Returned (pack f v ws out) = Result ℕ Refusal × List ℕ
+Returned (unpack f bs out) = Result Unpacked Refusal × List ℕ
 
-abbrev pub Allows : (c : Call) → Result c → Type 0
-Allows (check S ws) r = checked_reply r ≡ checked (read S ws)
+abbrev pub Allows : (c : Call) → Returned c → Type 0
+Allows (check S ws) r = reply_of r ≡ checked (read S ws)
 Allows (measure S ws) r = reply_of r ≡ measured (read S ws)
 Allows (write S ws out) r = told r.0 r.1 ≡ written (read S ws) out
 Allows (pack f v ws out) r = told r.0 r.1 ≡ packing f v ws out

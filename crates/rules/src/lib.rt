@@ -7,47 +7,43 @@ ghost use Rattle.language.specs.Setting.{in_version};
 ghost use Rattle.rules.specs.PublicCalls.{Call, Allows};
 
 use files::{Form, Unpacked};
-use language::Answer;
-use reading::Checked;
+use language::{Fault, Refusal};
 
 // Whether the words are a rule.
-pub fn check(version: u16, words: &[u16]) -> Checked
+pub fn check(version: u16, words: &[u16]) -> Result<(), Refusal>
     ensures { Allows (Call.check (in_version version) words.now) result }
 {
     reading::check(version, words)
 }
 
 // How many words the image of a rule has.
-pub fn measure(version: u16, words: &[u16]) -> Answer
+pub fn measure(version: u16, words: &[u16]) -> Result<usize, Refusal>
     ensures { Allows (Call.measure (in_version version) words.now) result }
 {
     reading::measure(version, words)
 }
 
 // Writes the image of a rule at the front of the output, and gives its word count.
-pub fn write(out: &mut [u16], version: u16, words: &[u16]) -> Answer
+#[tactic(auto, using(crate::proofs::Ways::w_refused))]
+pub fn write(out: &mut [u16], version: u16, words: &[u16]) -> Result<usize, Refusal>
     ensures { Allows (Call.write (in_version version) words.now out.old) (result, out.new) }
 {
-    match reading::measure(version, words) {
-        Answer::Refusal(e, p) => Answer::Refusal(e, p),
-        Answer::Count(n) => {
-            if out.len() < n {
-                return Answer::Refusal(language::NO_ROOM, language::NO_PLACE);
-            }
-            Answer::Count(writing::write_image(out, words))
-        }
+    let count = reading::measure(version, words)?;
+    if out.len() < count {
+        return Err(Fault::NoRoom.into());
     }
+    Ok(writing::write_image(out, words))
 }
 
 // Writes the file of the words, of the form and in the version told, at the front of the output, and gives the bytes written.
-pub fn pack(out: &mut [u8], form: Form, version: u16, words: &[u16]) -> Answer
+pub fn pack(out: &mut [u8], form: Form, version: u16, words: &[u16]) -> Result<usize, Refusal>
     ensures { Allows (Call.pack form version words.now out.old) (result, out.new) }
 {
     files::pack(out, form, version, words)
 }
 
 // Writes the words of a file, of the form told, at the front of the output, and gives the file's version and how many words. Reads no terms.
-pub fn unpack(out: &mut [u16], form: Form, bytes: &[u8]) -> Unpacked
+pub fn unpack(out: &mut [u16], form: Form, bytes: &[u8]) -> Result<Unpacked, Refusal>
     ensures { Allows (Call.unpack form bytes.now out.old) (result, out.new) }
 {
     files::unpack(out, form, bytes)

@@ -5,36 +5,33 @@
 
 use std::fmt::InlineText;
 use std::fs::File;
+use std::io;
 use std::io::Write;
 use std::rt::Files;
-
-const LETTERS: usize = 26;
 
 // The most bytes of a file's name: two signs of at most two bytes, and `.lrs`.
 const MOST_NAME: usize = 8;
 
-// Answers the file of a letter in a set; says whether there is one.
+// Answers the file of a letter in a set, where there is one.
 fn answer_letter<R: Files, W: Write, E: Write>(
     rt: &R,
     out: &mut W,
     errors: &mut E,
     set: u8,
     letter: u8,
-) -> bool {
+) -> io::Result<()> {
     let (set_sign, letter_sign) = (char::from(set), char::from(letter));
     let path = InlineText::<MOST_NAME>::of(format_args!("{set_sign}{letter_sign}.lrs"));
-    let Ok(mut file) = File::open(rt, path.as_str()) else {
-        return false;
-    };
+    let mut file = File::open(rt, path.as_str())?;
     let _ = out.write_all(&[set, letter, b'\n']);
     desk::answer_file(&mut file, out, errors);
-    true
+    Ok(())
 }
 
-// Answers the files of a set, from its first letter on.
+// Answers the files of a set, from its first letter on, until there is none of a letter.
 fn answer_set<R: Files, W: Write, E: Write>(rt: &R, out: &mut W, errors: &mut E, set: u8) {
-    for i in 0..LETTERS {
-        if !answer_letter(rt, out, errors, set, b'a' + i as u8) {
+    for letter in b'a'..=b'z' {
+        if answer_letter(rt, out, errors, set, letter).is_err() {
             return;
         }
     }

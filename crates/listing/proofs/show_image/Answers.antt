@@ -5,4 +5,5 @@ use Rattle.listing.proofs.show_image.Goals as goal
 
 pub returns : goal.returns
 returns c =
-    image_whole _ _ _ c.spell-digits.ensures (omega arith) (omega arith) c.put_start.ensures c.put_words.ensures
+    image_whole _ _ _ c.digits-number.ensures.spelled (omega arith) (omega arith) c.put_text.ensures c.put_number.ensures
+    c.put_words.ensures
