@@ -8,7 +8,7 @@ ghost use Rattle.language.specs.Setting.{in_version};
 ghost use Rattle.language.specs.Read.{second, unlike};
 ghost use Rattle.arities.specs.Marks.{mark_of, unmarked, arity, counted};
 
-use language::{Fault, LOW_BYTE, Refusal, Stand, Version};
+use language::{Fault, LOW_BYTE, Refusal};
 
 // What a second word tells: a count, and the place after it.
 #[derive(Clone, Copy)]
@@ -60,13 +60,13 @@ fn unlike_at(s: &[u16], at: usize, w: u16, marks: &[u16]) -> Result<Counted, Ref
 
 // An arm's two words: its arity.
 #[tactic(auto, unfolding(crate::specs::Marks::arity))]
-pub fn arity_at(version: Version, s: &[u16], at: usize, marks: &[u16]) -> Result<Counted, Refusal>
-    ensures { counted result ≡ arity (in_version version.0) s.now (unmarked marks.now) at }
+pub fn arity_at(version: u8, s: &[u16], at: usize, marks: &[u16]) -> Result<Counted, Refusal>
+    ensures { counted result ≡ arity (in_version version) s.now (unmarked marks.now) at }
 {
     if s.len() <= at {
         return Err(Fault::NoneLeft.at(s.len()));
     }
     let w = s[at];
-    language::look(version, Stand::AtArm, w).map_err(|fault| fault.at(at))?;
+    language::look(version, language::AT_ARM, w).map_err(|fault| fault.at(at))?;
     unlike_at(s, at + 1, w, marks)
 }

@@ -5,78 +5,40 @@ use Prim.Native.Nat.{ℕ, zero, suc, ◌/◌, ◌%◌, ◌<◌, ◌≤◌}
 use mathlib.Core.Path.{◌≡◌, refl, sym, ap, ◌∙◌}
 use native.Mathlib.Omega.{arith}
 use lib.ListN.{get_or-eq_default}
-use mathlib.Core.Bool.{true, false}
-use borrow.Author.Tests.{lt-ltb, le-ltb, le-leb, lt-leb}
-use Rattle.language.specs.Kinds.{most_byte, no_row, kinds, row_at, Has, row_of, same_stand, allowed, tested, Head, Refused, Opens, head_of}
+use borrow.Author.Tests.{lt-ltb, le-ltb, le-leb, lt-leb, eq-eqb, ne_eqb}
+use Rattle.language.specs.Kinds.{most_byte, no_row, kinds, row_at, Has, row_of, allowed, tested, Head, Refused, Opens, head_of}
 use Rattle.language.specs.Words.{head}
 use Rattle.language.specs.declared.Row.{Row}
-use Rattle.language.specs.declared.Stand.{Stand}
-use Rattle.language.specs.declared.Stand.TheVariants.{Nowhere, AtTerm, AtArm}
-use Rattle.language.proofs.Clash.{never}
 
--- the test where a head stands
-pub stand_same : {p q : Stand} → p ≡ q → same_stand p q ≡ true
-unfolding same_stand
-stand_same {p} e = rw (← e) (go p)
-  where
-    go : (p : Stand) → same_stand p p ≡ true
-    go Nowhere = refl
-    go AtTerm = refl
-    go AtArm = refl
-
-pub stand_other : (p q : Stand) → (p ≡ q → ⊥) → same_stand p q ≡ false
-unfolding same_stand
-stand_other Nowhere Nowhere n = absurd (n refl)
-stand_other Nowhere AtTerm n = refl
-stand_other Nowhere AtArm n = refl
-stand_other AtTerm Nowhere n = refl
-stand_other AtTerm AtTerm n = absurd (n refl)
-stand_other AtTerm AtArm n = refl
-stand_other AtArm Nowhere n = refl
-stand_other AtArm AtTerm n = refl
-stand_other AtArm AtArm n = absurd (n refl)
-
-pub stand_is : (p q : Stand) → same_stand p q ≡ true → p ≡ q
-unfolding same_stand
-stand_is Nowhere Nowhere e = refl
-stand_is Nowhere AtTerm e = never cc
-stand_is Nowhere AtArm e = never cc
-stand_is AtTerm Nowhere e = never cc
-stand_is AtTerm AtTerm e = refl
-stand_is AtTerm AtArm e = never cc
-stand_is AtArm Nowhere e = never cc
-stand_is AtArm AtTerm e = never cc
-stand_is AtArm AtArm e = refl
-
-module _ (v : ℕ) (q : Stand) (w : ℕ) {r : Row} (e : r ≡ row_of w) where
+module _ (v q w : ℕ) {r : Row} (e : r ≡ row_of w) where
   of_row : {h : Head} → h ≡ tested r v q (w % 256) → h ≡ head_of v q w
   unfolding head_of
   of_row k = k ∙ ap (λ x. tested x v q (w % 256)) e
 
   pub wrong_kind : (r.stands ≡ q → ⊥) → Refused 4 ≡ head_of v q w
   unfolding tested allowed
-  wrong_kind n = of_row (simp (stand_other _ _ n))
+  wrong_kind n = of_row (simp (ne_eqb _ _ n))
 
   pub too_early : r.stands ≡ q → v < r.first → Refused 4 ≡ head_of v q w
   unfolding tested allowed
-  too_early s f = of_row (simp (stand_same s, lt-leb _ _ f))
+  too_early s f = of_row (simp (eq-eqb _ _ s, lt-leb _ _ f))
 
   pub too_late : r.stands ≡ q → r.first ≤ v → r.last < v → Refused 4 ≡ head_of v q w
   unfolding tested allowed
-  too_late s f l = of_row (simp (stand_same s, le-leb _ _ f, lt-leb _ _ l))
+  too_late s f l = of_row (simp (eq-eqb _ _ s, le-leb _ _ f, lt-leb _ _ l))
 
   module _ (s : r.stands ≡ q) (f : r.first ≤ v) (u : v ≤ r.last) where
     pub too_low : w % 256 < r.low → Refused 5 ≡ head_of v q w
     unfolding tested allowed
-    too_low l = of_row (simp (stand_same s, le-leb _ _ f, le-leb _ _ u, lt-ltb _ _ l))
+    too_low l = of_row (simp (eq-eqb _ _ s, le-leb _ _ f, le-leb _ _ u, lt-ltb _ _ l))
 
     pub too_high : r.low ≤ w % 256 → r.high < w % 256 → Refused 5 ≡ head_of v q w
     unfolding tested allowed
-    too_high l h = of_row (simp (stand_same s, le-leb _ _ f, le-leb _ _ u, le-ltb _ _ l, lt-ltb _ _ h))
+    too_high l h = of_row (simp (eq-eqb _ _ s, le-leb _ _ f, le-leb _ _ u, le-ltb _ _ l, lt-ltb _ _ h))
 
     pub opens : r.low ≤ w % 256 → w % 256 ≤ r.high → Opens r ≡ head_of v q w
     unfolding tested allowed
-    opens l h = of_row (simp (stand_same s, le-leb _ _ f, le-leb _ _ u, le-ltb _ _ l, le-ltb _ _ h))
+    opens l h = of_row (simp (eq-eqb _ _ s, le-leb _ _ f, le-leb _ _ u, le-ltb _ _ l, le-ltb _ _ h))
 
 pub ruleset ways = (wrong_kind, too_early, too_late, too_low, too_high, opens)
 
@@ -108,7 +70,7 @@ unfolding row_of
 of_kind w k a e l q = let d : w / 256 ≡ k = omega arith in rw (d, q)
 
 -- a head of a kind that stands in the version and whose low byte is in its range opens its row
-pub head_opens : (v : ℕ) (q : Stand) (w k a : ℕ) {r : Row} → Has v k → w ≡ head k a → a ≤ most_byte → row_at k ≡ r → r.stands ≡ q → r.low ≤ a → a ≤ r.high
+pub head_opens : (v q w k a : ℕ) {r : Row} → Has v k → w ≡ head k a → a ≤ most_byte → row_at k ≡ r → r.stands ≡ q → r.low ≤ a → a ≤ r.high
     → Opens r ≡ head_of v q w
 head_opens v q w k a {r} x e l i s lo hi =
     let m : w % 256 ≡ a = omega arith in

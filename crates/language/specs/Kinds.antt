@@ -1,14 +1,10 @@
 -- The kinds of head words: document 01, "Words of a rule". "The permitted kinds and ranges form one constant table, used by every
 -- reader": `kinds` is the code's own table, KINDS, whose rows are of the type that the code declares.
-use Rattle.std.specs.Prelude.{ℕ, ◌/◌, ◌%◌, ◌≤◌, ◌≡◌, Bool, true, false, cond, ◌&&◌, List, [], ◌∷◌, ltb, leb, get_or, Result, Ok, Err}
+use Rattle.std.specs.Prelude.{ℕ, ◌/◌, ◌%◌, ◌≤◌, Bool, cond, ◌&&◌, List, [], ◌∷◌, ltb, leb, eqb, get_or, Result, Ok, Err}
 use Rattle.language.specs.declared.Parts.{Parts}
 use Rattle.language.specs.declared.Parts.TheVariants.{Nothing, Body, FunctionAndArguments, BoundAndBody, CountAndArguments, SubjectAndArms, ArityAndBody, HighAndLow, TwoParts}
 use Rattle.language.specs.declared.Row.{Row}
-use Rattle.language.specs.declared.Stand.{Stand}
-use Rattle.language.specs.declared.Stand.TheVariants.{Nowhere, AtTerm, AtArm}
 use Rattle.language.specs.declared.Fault.{Fault}
-use Rattle.language.specs.declared.Fault.TheVariants.{WrongVersion}
-use Rattle.language.specs.declared.Version.{Version}
 use Rattle.language.specs.Faults.{number_of}
 
 -- document 02, Wish 5: "Raise the limit from 8 to 15 for functions, calls, constructors and arms"
@@ -46,33 +42,23 @@ numbered = 2
 unfoldable pub known : ℕ → Bool
 known v = leb oldest v && leb v newest
 
--- what the code makes of a version's number: "11 now means neither 1 nor 2"
-abbrev pub Versions : ℕ → Result Version Fault → Type 0
-Versions v r = r ≡ cond (known v) (Ok (record { 0 = v })) (Err WrongVersion)
-
 -- where a head may stand in a rule: nowhere, at a term, at an arm
-abbrev pub nowhere : Stand
-nowhere = Nowhere
+abbrev pub nowhere : ℕ
+nowhere = 0
 
-abbrev pub at_term : Stand
-at_term = AtTerm
+abbrev pub at_term : ℕ
+at_term = 1
 
-abbrev pub at_arm : Stand
-at_arm = AtArm
-
-unfoldable pub same_stand : Stand → Stand → Bool
-same_stand Nowhere Nowhere = true
-same_stand AtTerm AtTerm = true
-same_stand AtArm AtArm = true
-same_stand _ _ = false
+abbrev pub at_arm : ℕ
+at_arm = 2
 
 -- the first and the last version in which a kind stands in rules; where it may stand; its lowest and highest low byte; how many source variables its
 -- body has besides the arguments (a recursive function's name, the let's value); what follows it
-abbrev pub row_in : ℕ → ℕ → Stand → ℕ → ℕ → ℕ → Parts → Row
+abbrev pub row_in : ℕ → ℕ → ℕ → ℕ → ℕ → ℕ → Parts → Row
 row_in f e s l h b p = record { first = f; last = e; stands = s; low = l; high = h; binds = b; parts = p }
 
 -- a kind of every version
-abbrev pub row : Stand → ℕ → ℕ → ℕ → Parts → Row
+abbrev pub row : ℕ → ℕ → ℕ → ℕ → Parts → Row
 row = row_in oldest newest
 
 abbrev pub no_row : Row
@@ -109,9 +95,8 @@ unfoldable pub row_of : ℕ → Row
 row_of w = row_at (w / 256)
 
 -- whether a kind with this row is allowed in version v at q
-unfoldable pub allowed : Row → ℕ → Stand → Bool
-unfolding same_stand
-allowed r v q = same_stand r.stands q && (leb r.first v && leb v r.last)
+unfoldable pub allowed : Row → ℕ → ℕ → Bool
+allowed r v q = eqb r.stands q && (leb r.first v && leb v r.last)
 
 -- what is found at a head word: a refusal's number, or the row of its kind
 pub data Head : Type 0 where
@@ -120,11 +105,11 @@ pub data Head : Type 0 where
 
 -- the tests 4, "kind is not 1 to 7 at a term, not 8 at an arm", where "4 allows 10 and 11 in version 2 only", and 5, "low byte .. outside its range",
 -- in this order
-unfoldable pub tested : Row → ℕ → Stand → ℕ → Head
+unfoldable pub tested : Row → ℕ → ℕ → ℕ → Head
 tested r v q a = cond (allowed r v q) (cond (ltb a r.low) (Refused 5) (cond (ltb r.high a) (Refused 5) (Opens r))) (Refused 4)
 
 -- what the word w is as a head in version v, where one that stands at q is asked for
-unfoldable pub head_of : ℕ → Stand → ℕ → Head
+unfoldable pub head_of : ℕ → ℕ → ℕ → Head
 unfolding tested allowed row_of
 head_of v q w = tested (row_of w) v q (w % 256)
 

@@ -3,7 +3,7 @@
 #![tactic(auto)]
 
 ghost use Rattle.std.specs.Prelude.{◌≡◌};
-ghost use Rattle.language.specs.Kinds.{known, row_of, head_is, head_of, Versions};
+ghost use Rattle.language.specs.Kinds.{known, row_of, head_is, head_of};
 ghost use Rattle.language.specs.Faults.{number_of};
 
 use std::fmt;
@@ -113,12 +113,11 @@ impl From<Fault> for Refusal {
 pub const NO_PLACE: usize = 0;
 
 // Where a head may stand in a rule.
-#[derive(Clone, Copy, PartialEq, Eq)]
-pub enum Stand {
-    Nowhere,
-    AtTerm,
-    AtArm,
-}
+const NOWHERE: u8 = 0;
+
+pub const AT_TERM: u8 = 1;
+
+pub const AT_ARM: u8 = 2;
 
 // What follows a head word.
 #[derive(Clone, Copy)]
@@ -140,7 +139,7 @@ pub enum Parts {
 pub struct Row {
     pub first: u8,
     pub last: u8,
-    pub stands: Stand,
+    pub stands: u8,
     pub low: u8,
     pub high: u8,
     pub binds: u8,
@@ -156,17 +155,17 @@ const MOST_BYTE: u8 = 255;
 const NO_ROW: Row = Row {
     first: 0,
     last: 0,
-    stands: Stand::Nowhere,
+    stands: NOWHERE,
     low: 0,
     high: 0,
     binds: 0,
     parts: Parts::Nothing,
 };
 
-const AT_TERM: Row = Row {
+const TERM_ROW: Row = Row {
     first: OLDEST,
     last: NEWEST,
-    stands: Stand::AtTerm,
+    stands: AT_TERM,
     ..NO_ROW
 };
 
@@ -174,85 +173,66 @@ const KINDS: [Row; KINDS_COUNT] = [
     NO_ROW,
     Row {
         high: MOST_BYTE,
-        ..AT_TERM
+        ..TERM_ROW
     },
     Row {
         low: 1,
         high: MOST_ARGUMENTS,
         parts: Parts::Body,
-        ..AT_TERM
+        ..TERM_ROW
     },
     Row {
         low: 1,
         high: MOST_ARGUMENTS,
         binds: 1,
         parts: Parts::Body,
-        ..AT_TERM
+        ..TERM_ROW
     },
     Row {
         low: 1,
         high: MOST_ARGUMENTS,
         parts: Parts::FunctionAndArguments,
-        ..AT_TERM
+        ..TERM_ROW
     },
     Row {
         binds: 1,
         parts: Parts::BoundAndBody,
-        ..AT_TERM
+        ..TERM_ROW
     },
     Row {
         high: MOST_BYTE,
         parts: Parts::CountAndArguments,
-        ..AT_TERM
+        ..TERM_ROW
     },
     Row {
         low: 1,
         high: MOST_ARMS,
         parts: Parts::SubjectAndArms,
-        ..AT_TERM
+        ..TERM_ROW
     },
     Row {
-        stands: Stand::AtArm,
+        stands: AT_ARM,
         high: MOST_BYTE,
         parts: Parts::ArityAndBody,
-        ..AT_TERM
+        ..TERM_ROW
     },
     Row {
-        stands: Stand::Nowhere,
+        stands: NOWHERE,
         high: MOST_BYTE,
-        ..AT_TERM
+        ..TERM_ROW
     },
     Row {
         first: NUMBERED,
         parts: Parts::HighAndLow,
-        ..AT_TERM
+        ..TERM_ROW
     },
     Row {
         first: NUMBERED,
         high: LAST_OPERATION,
         parts: Parts::TwoParts,
-        ..AT_TERM
+        ..TERM_ROW
     },
 ];
-
-// A version of rules that there is.
-#[derive(Clone, Copy, PartialEq, Eq)]
-pub struct Version(u8);
-
-impl TryFrom<u16> for Version {
-    type Error = Fault;
-
-    ghost try_from_gives = { Versions };
-
-    #[tactic(auto, unfolding(crate::specs::Kinds::known))]
-    fn try_from(number: u16) -> Result<Version, Fault> {
-        if is_known(number) {
-            Ok(Version(number as u8))
-        } else {
-            Err(Fault::WrongVersion)
-        }
-    }
-}
 
 // Whether there is such a version of rules.
 pub fn is_known(version: u16) -> bool
@@ -285,18 +265,18 @@ pub fn row_of(w: u16) -> Row
 
 // The row of the word w as a head in a version, where one that stands at q is asked for: its kind is tested first, then its low byte.
 #[tactic(auto, using(crate::proofs::Heads::ways))]
-pub fn look(version: Version, q: Stand, w: u16) -> Result<Row, Fault>
-    ensures { head_is result ≡ head_of version.0 q w }
+pub fn look(version: u8, q: u8, w: u16) -> Result<Row, Fault>
+    ensures { head_is result ≡ head_of version q w }
 {
     let row = row_of(w);
     let low = (w % LOW_BYTE) as u8;
     if row.stands != q {
         return Err(Fault::WrongKind);
     }
-    if version.0 < row.first {
+    if version < row.first {
         return Err(Fault::WrongKind);
     }
-    if row.last < version.0 {
+    if row.last < version {
         return Err(Fault::WrongKind);
     }
     if low < row.low {

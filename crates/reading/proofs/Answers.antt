@@ -2,19 +2,19 @@
 -- is small.
 -- Assumes nothing.
 use Prim.Native.Nat.{ℕ, ◌+◌, ◌*◌, ◌<◌, ◌≤◌}
-use mathlib.Core.Path.{◌≡◌, refl, ap, ◌∙◌}
-use mathlib.Core.Bool.{Bool, true, false, cond}
+use mathlib.Core.Path.{◌≡◌, refl, sym, ap, ◌∙◌}
+use mathlib.Core.Bool.{Bool, true, false, cond, not, and-eq-true_iff}
 use mathlib.Core.List.{List}
 use native.Mathlib.Omega.{arith}
-use lib.Dec.{ltb, eqb}
+use lib.Dec.{ltb, leb, eqb}
 use lib.ListN.{length}
-use mir.Syntax.{w64}
+use mir.Syntax.{w8, w64}
 use mir.Val.{Fits}
-use borrow.Author.Tests.{lt-ltb, le-ltb, ltb-false}
+use borrow.Author.Tests.{lt-ltb, le-ltb, ltb-false, leb-true, not-false}
 use Rattle.std.specs.Prelude.{Ok, Err}
 use Rattle.language.specs.Term.{Term}
 use Rattle.language.specs.Setting.{Setting}
-use Rattle.language.specs.Kinds.{known}
+use Rattle.language.specs.Kinds.{oldest, newest, known}
 use Rattle.language.specs.Limits.{deepest, most_words}
 use Rattle.language.specs.Faults.{number_of}
 use Rattle.language.specs.Read.{no_place, Got, found, fault, then, term, Reading, accepted, refused, reading, closed, ended, read}
@@ -26,6 +26,11 @@ use Rattle.sizes.proofs.Lengths.{of_image}
 use Rattle.reading.specs.Steps.{image_words, Next, No, step_of, term_step}
 use Rattle.reading.proofs.Steps.{stops}
 use Rattle.reading.proofs.Sums.{term_small}
+
+-- a known version fits in a byte
+pub known_byte : (v : ℕ) {b : Bool} → b ≡ known v → not b ≡ false → Fits w8 v
+unfolding known
+known_byte v {b} e i = record { fits = omega (arith, leb-true v newest ((and-eq-true_iff (leb oldest v) (leb v newest)).0 (sym e ∙ not-false b i)).1) }
 
 left_over : (s : List ℕ) (g : Got Term) {to z : ℕ} {b : Bool} → Next to b z ≡ term_step g → to < length s → No 8 to ≡ term_step (then g (ended s))
 unfolding step_of then ended

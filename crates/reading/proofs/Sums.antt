@@ -33,7 +33,7 @@ one_bind o_num = omega arith
 one_bind o_op = omega arith
 
 pub row_binds : (v w : ℕ) {f : Row} → Opens f ≡ head_of v at_term w → f.binds ≤ 1
-row_binds v w e = one_bind (passed v at_term w _ (λ n. never cc) (sym e)).opened
+row_binds v w e = one_bind (passed v at_term w _ (omega arith) (sym e)).opened
 
 -- a match has so many arms at most
 few_arms : {k a : ℕ} {f : Row} → Opened k f → f.parts ≡ SubjectAndArms → a ≤ f.high → a ≤ most_arms
@@ -49,7 +49,7 @@ few_arms o_num e l = never cc
 few_arms o_op e l = never cc
 
 pub row_arms : (v w : ℕ) {f : Row} → Opens f ≡ head_of v at_term w → FewArms f.parts (w % 256)
-row_arms v w e = let p = passed v at_term w _ (λ n. never cc) (sym e) in record { few = λ q. few_arms p.opened q p.high }
+row_arms v w e = let p = passed v at_term w _ (omega arith) (sym e) in record { few = λ q. few_arms p.opened q p.high }
 
 -- what holds of the words of each thing that can be found holds of those that were counted
 counts : {A : Type 0} {Q : A → ℕ → Type 0} (α : A → Bool) (π : A → ℕ) (k : ℕ) {g : Got A} {to z : ℕ} {b : Bool} → Holds Q g

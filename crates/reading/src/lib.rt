@@ -12,7 +12,7 @@ ghost use Rattle.language.specs.Read.{found, fault, then, made, number, many, ar
 ghost use Rattle.language.specs.Calls.{reply_of, checked, measured};
 ghost use Rattle.reading.specs.Steps.{a_word, small, function_words, constructor_words, saved_words, step_is, term_step, terms_step, arms_step, FewArms};
 
-use language::{Fault, LOW_BYTE, Parts, Refusal, Row, Stand, Version};
+use language::{AT_TERM, Fault, LOW_BYTE, Parts, Refusal, Row};
 
 // The words of a variable's passing form and of a number's, and those that each other form has besides its parts' passing forms and chains.
 const VARIABLE_WORDS: usize = 4;
@@ -178,7 +178,7 @@ fn number_at(s: &[u16], at: usize) -> Result<Found, Refusal>
 // A table of words, read in a version. It has so few that what is counted in it never wraps.
 #[derive(Clone, Copy)]
 struct Table<'a> {
-    version: Version,
+    version: u8,
     words: &'a [u16],
     ghost few: { length words.now ≤ a_word },
 }
@@ -188,7 +188,7 @@ impl<'a> Table<'a> {
     #[cycle(terms)]
     #[tactic(auto, using(crate::proofs::Sums::row_binds, crate::proofs::Sums::row_arms), unfolding(crate::specs::Steps::step_of, language::specs::Read::term))]
     fn term(self, at: usize, level: Level) -> Result<Found, Refusal>
-        ensures { step_is result ≡ term_step (term (in_version self.entry.version.0) self.entry.words.now level.left level.bound at) }
+        ensures { step_is result ≡ term_step (term (in_version self.entry.version) self.entry.words.now level.left level.bound at) }
     {
         if self.words.len() <= at {
             return Err(Fault::NoneLeft.at(self.words.len()));
@@ -197,7 +197,7 @@ impl<'a> Table<'a> {
             return Err(Fault::TooDeep.at(at));
         }
         let head = self.words[at];
-        let row = language::look(self.version, Stand::AtTerm, head).map_err(|fault| fault.at(at))?;
+        let row = language::look(self.version, AT_TERM, head).map_err(|fault| fault.at(at))?;
         self.opened(at, level, usize::from(head % LOW_BYTE), row)
     }
 
@@ -206,7 +206,7 @@ impl<'a> Table<'a> {
     #[tactic(auto, using(crate::proofs::Ways::ways), unfolding(crate::specs::Steps::step_of, language::specs::Read::opened))]
     fn opened(self, at: usize, level: Level, low: usize, row: Row) -> Result<Found, Refusal>
         requires { (0 < level.left) × (at < length self.words.now) × (low ≤ most_byte) × (row.binds ≤ 1) × FewArms row.parts low }
-        ensures { step_is result ≡ term_step (opened (in_version self.entry.version.0) self.entry.words.now (term (in_version self.entry.version.0) self.entry.words.now (level.left - 1)) level.bound at low row.binds row.parts) }
+        ensures { step_is result ≡ term_step (opened (in_version self.entry.version) self.entry.words.now (term (in_version self.entry.version) self.entry.words.now (level.left - 1)) level.bound at low row.binds row.parts) }
     {
         let next = at + 1;
         let binds = usize::from(row.binds);
@@ -249,7 +249,7 @@ impl<'a> Table<'a> {
     #[tactic(auto, using(crate::proofs::Ways::terms_ways))]
     fn list(self, at: usize, level: Level, count: usize) -> Result<Found, Refusal>
         requires { count < a_word }
-        ensures { step_is result ≡ terms_step (many (term (in_version self.entry.version.0) self.entry.words.now level.left level.bound) count at) }
+        ensures { step_is result ≡ terms_step (many (term (in_version self.entry.version) self.entry.words.now level.left level.bound) count at) }
     {
         let mut list = Found::nothing(at, true);
         for _ in 0..count {
@@ -264,7 +264,7 @@ impl<'a> Table<'a> {
     #[tactic(auto, using(crate::proofs::Ways::arms_ways))]
     fn arms(self, at: usize, level: Level, count: usize) -> Result<Found, Refusal>
         requires { (0 < level.left) × (count ≤ most_arms) }
-        ensures { step_is result ≡ arms_step (arms_of (in_version self.entry.version.0) self.entry.words.now (term (in_version self.entry.version.0) self.entry.words.now (level.left - 1)) [] level.bound count at) }
+        ensures { step_is result ≡ arms_step (arms_of (in_version self.entry.version) self.entry.words.now (term (in_version self.entry.version) self.entry.words.now (level.left - 1)) [] level.bound count at) }
     {
         let mut marks = [0; language::MOST_ARMS as usize];
         let mut arms = Found::nothing(at, false);
@@ -301,11 +301,13 @@ impl<'a> Reader<'a> {
     }
 
     // The closed term at the reading place, after the tests of the version and of the table's length.
-    #[tactic(auto, unfolding(language::specs::Read::closed, crate::specs::Steps::step_of))]
+    #[tactic(auto, using(crate::proofs::Answers::known_byte), unfolding(language::specs::Read::closed, crate::specs::Steps::step_of))]
     fn closed(self, version: u16) -> Result<Found, Refusal>
         ensures { step_is result ≡ term_step (closed (in_version version) self.entry.words.now self.entry.next) }
     {
-        let version = Version::try_from(version)?;
+        if !language::is_known(version) {
+            return Err(Fault::WrongVersion.into());
+        }
         if self.words.is_empty() {
             return Err(Fault::NoWords.into());
         }
@@ -313,7 +315,7 @@ impl<'a> Reader<'a> {
             return Err(Fault::TooManyWords.into());
         }
         let table = Table {
-            version,
+            version: version as u8,
             words: self.words,
         };
         table.term(self.next, Level::top())

@@ -24,7 +24,6 @@ use Rattle.language.specs.Places.{Held}
 use Rattle.language.specs.Read.{Got, found, fault, then, made, headed, second, number, many, unlike, arms_of, opened, term}
 use Rattle.language.specs.declared.Row.{Row}
 use Rattle.language.proofs.Places.{no_words, one_word, join as join_held}
-use Rattle.language.proofs.Clash.{never}
 use Rattle.trust.specs.Promises.{Fit}
 use Rattle.trust.proofs.Live.{Fresh, f_none, f_arm, each_taken}
 use Rattle.trust.proofs.Rows.{Opened, o_var, o_fun, o_rec, o_call, o_let, o_con, o_match, o_arm, o_num, o_op, passed}
@@ -298,16 +297,16 @@ zero_low k a l x = let z : a ≡ 0 = omega arith in rw z at x
 
 -- only an arm's head stands at an arm
 arm_kind : {k : ℕ} {r : Row} → Opened k r → r.stands ≡ at_arm → 8 ≡ k
-arm_kind o_var e = never cc
-arm_kind o_fun e = never cc
-arm_kind o_rec e = never cc
-arm_kind o_call e = never cc
-arm_kind o_let e = never cc
-arm_kind o_con e = never cc
-arm_kind o_match e = never cc
+arm_kind o_var e = absurd (omega arith)
+arm_kind o_fun e = absurd (omega arith)
+arm_kind o_rec e = absurd (omega arith)
+arm_kind o_call e = absurd (omega arith)
+arm_kind o_let e = absurd (omega arith)
+arm_kind o_con e = absurd (omega arith)
+arm_kind o_match e = absurd (omega arith)
 arm_kind o_arm e = refl
-arm_kind o_num e = never cc
-arm_kind o_op e = never cc
+arm_kind o_num e = absurd (omega arith)
+arm_kind o_op e = absurd (omega arith)
 
 -- the readers find such terms, lists and arms, where p finds the parts
 module _ (S : Setting) (s : List ℕ) (d : ℕ) (p : ℕ → ℕ → Got Term) (good : (n at : ℕ) → Holds (Good S s d n at) (p n at)) where
@@ -320,7 +319,7 @@ module _ (S : Setting) (s : List ℕ) (d : ℕ) (p : ℕ → ℕ → Got Term) (
   unfolding arms_of
   arms_good before n zero at = held none_good
   arms_good before n (suc k) at = holds_test (ltb at (length s)) _ 3 (length s) (λ a. holds_head (head_of S.version at_arm (get_or s at 0)) at _ (λ r e.
-      let h = passed S.version at_arm (get_or s at 0) r (λ z. never cc) e in
+      let h = passed S.version at_arm (get_or s at 0) r (omega arith) e in
       let eight = arm_kind h.opened h.stands in
       let first = head_held s at (ltb-true at (length s) a) eight in
       let stood : Has S.version 8 = subst (Has S.version) (sym eight) h.versed in
@@ -345,7 +344,7 @@ module _ (S : Setting) (s : List ℕ) (d : ℕ) (p : ℕ → ℕ → Got Term) (
       holds_then _ (second_good s (at + 1)) (λ m i y. holds_made _ (many_good _ _ _) (λ ps to z. con_good (head_held s at h q) k u y z))
   opened_good n at h q k o_match e l u =
       holds_then _ (good _ _) (λ m i y. holds_made _ (arms_good [] _ _ _) (λ ps to z. match_good (head_held s at h q) k l u y z))
-  opened_good n at h q k o_arm e l u = never cc
+  opened_good n at h q k o_arm e l u = absurd (omega arith)
   opened_good n at h q k o_num e l u = holds_made _ (number_good s (at + 1)) (λ m to y. num_good (zero_low 10 (get_or s at 0 % 256) u (head_held s at h q)) k y)
   opened_good n at h q k o_op e l u = holds_made _ (many_good _ _ _) (λ ps to z. op_good (head_held s at h q) k u z)
 
@@ -353,5 +352,5 @@ pub term_good : (S : Setting) (s : List ℕ) (d n at : ℕ) → Holds (Good S s 
 unfolding term
 term_good S s zero n at = holds_test (ltb at (length s)) _ 3 (length s) (λ a. left)
 term_good S s (suc d) n at = holds_test (ltb at (length s)) _ 3 (length s) (λ a. holds_head (head_of S.version at_term (get_or s at 0)) at _ (λ r e.
-    let h = passed S.version at_term (get_or s at 0) r (λ z. never cc) e in
+    let h = passed S.version at_term (get_or s at 0) r (omega arith) e in
     opened_good S s d (term S s d) (term_good S s d) n at (ltb-true at (length s) a) refl h.versed h.opened h.stands h.low h.high))

@@ -21,7 +21,6 @@ use Rattle.language.specs.Read.{no_place, Got, found, fault, then, made, word, h
 use Rattle.language.specs.declared.Parts.{Parts}
 use Rattle.language.specs.declared.Parts.TheVariants.{Nothing, Body, FunctionAndArguments, BoundAndBody, CountAndArguments, SubjectAndArms, ArityAndBody, HighAndLow, TwoParts}
 use Rattle.language.specs.declared.Row.{Row}
-use Rattle.language.specs.declared.Stand.{Stand}
 use Rattle.language.proofs.Clash.{never}
 use Rattle.trust.specs.Promises.{OfWord, of_rule, of_dead_arm, Placed, of_version, of_length, of_end, of_word, PlacesHelp}
 
@@ -50,7 +49,7 @@ past_three (of_rule l m) = l
 past_three of_dead_arm = omega arith
 
 -- a head is refused by 4 or 5
-head_told : (v : ℕ) (q : Stand) (w : ℕ) {e : ℕ} → head_of v q w ≡ Refused e → OfWord e
+head_told : (v q w : ℕ) {e : ℕ} → head_of v q w ≡ Refused e → OfWord e
 unfolding head_of tested
 head_told v q w {e} h = go (allowed r v q) (ltb (w % 256) r.low) (ltb r.high (w % 256)) h
   where
@@ -144,7 +143,7 @@ module _ (s u : List ℕ) (k : ℕ) (agree : (i : ℕ) → i < k → i < length 
       go true e = let l = ltb-true at (length s) e in record { tells = (h (get_or s at 0) l).tells; same = there l }
       go false e = record { tells = faults ends; same = gone }
 
-  head_alike : {A : Type 0} (v : ℕ) (q : Stand) (w at : ℕ) {f f' : Row → Got A} → at < length s → ((r : Row) → Alike s k (at + 1) (f r) (f' r))
+  head_alike : {A : Type 0} (v q w at : ℕ) {f f' : Row → Got A} → at < length s → ((r : Row) → Alike s k (at + 1) (f r) (f' r))
       → Alike s k (at + 1) (headed (head_of v q w) at f) (headed (head_of v q w) at f')
   head_alike v q w at {f} {f'} l x = go (head_of v q w) refl
     where

@@ -1,17 +1,16 @@
 -- What a head word opens, kind by kind. The table has twelve rows; `Opened` names those that may stand somewhere, each with its kind, so that a proof
 -- that goes by cases on it sees the row's columns.
 -- Assumes nothing.
-use Prim.Native.Nat.{ℕ, zero, suc, ◌/◌, ◌%◌, ◌≤◌}
-use mathlib.Core.Path.{◌≡◌, refl, sym, subst, ◌∙◌}
+use Prim.Native.Nat.{ℕ, zero, suc, ◌/◌, ◌%◌, ◌<◌, ◌≤◌}
+use mathlib.Core.Path.{◌≡◌, refl, subst}
 use mathlib.Core.Bool.{Bool, true, false, ◌&&◌, cond, and-eq-true_iff}
-use lib.Dec.{ltb, leb}
-use borrow.Author.Tests.{leb-true, ltb-false}
-use Rattle.language.specs.Kinds.{most_arguments, most_arms, most_byte, last_operation, newest, numbered, nowhere, at_term, at_arm, row_in, row, row_at, Has, row_of, same_stand, allowed, Refused, Opens, head_of}
+use native.Mathlib.Omega.{arith}
+use lib.Dec.{ltb, leb, eqb}
+use borrow.Author.Tests.{eqb-true, leb-true, ltb-false}
+use Rattle.language.specs.Kinds.{most_arguments, most_arms, most_byte, last_operation, newest, numbered, at_term, at_arm, row_in, row, row_at, Has, row_of, allowed, Refused, Opens, head_of}
 use Rattle.language.specs.declared.Parts.TheVariants.{Nothing, Body, FunctionAndArguments, BoundAndBody, CountAndArguments, SubjectAndArms, ArityAndBody, HighAndLow, TwoParts}
 use Rattle.language.specs.declared.Row.{Row}
-use Rattle.language.specs.declared.Stand.{Stand}
 use Rattle.language.proofs.Clash.{never}
-use Rattle.language.proofs.Heads.{stand_is}
 
 -- the kinds that may stand somewhere in a rule, with their rows
 pub data Opened : ℕ → Row → Type 0 where
@@ -26,8 +25,8 @@ pub data Opened : ℕ → Row → Type 0 where
   o_num : Opened 10 (row_in numbered newest at_term 0 0 0 HighAndLow)
   o_op : Opened 11 (row_in numbered newest at_term 0 last_operation 0 TwoParts)
 
-opened_at : (k : ℕ) → ((row_at k).stands ≡ nowhere → ⊥) → Opened k (row_at k)
-opened_at zero h = absurd (h refl)
+opened_at : (k : ℕ) → 0 < (row_at k).stands → Opened k (row_at k)
+opened_at zero h = absurd (omega arith)
 opened_at (suc zero) h = o_var
 opened_at (suc (suc zero)) h = o_fun
 opened_at (suc (suc (suc zero))) h = o_rec
@@ -36,13 +35,13 @@ opened_at (suc (suc (suc (suc (suc zero))))) h = o_let
 opened_at (suc (suc (suc (suc (suc (suc zero)))))) h = o_con
 opened_at (suc (suc (suc (suc (suc (suc (suc zero))))))) h = o_match
 opened_at (suc (suc (suc (suc (suc (suc (suc (suc zero)))))))) h = o_arm
-opened_at (suc (suc (suc (suc (suc (suc (suc (suc (suc zero))))))))) h = absurd (h refl)
+opened_at (suc (suc (suc (suc (suc (suc (suc (suc (suc zero))))))))) h = absurd (omega arith)
 opened_at (suc (suc (suc (suc (suc (suc (suc (suc (suc (suc zero)))))))))) h = o_num
 opened_at (suc (suc (suc (suc (suc (suc (suc (suc (suc (suc (suc zero))))))))))) h = o_op
-opened_at (suc (suc (suc (suc (suc (suc (suc (suc (suc (suc (suc (suc k)))))))))))) h = absurd (h refl)
+opened_at (suc (suc (suc (suc (suc (suc (suc (suc (suc (suc (suc (suc k)))))))))))) h = absurd (omega arith)
 
 -- what the tests of a head that opens a row showed: the kind stands in the version, the row may stand there, and the low byte is in its range
-pub record Passed (v w : ℕ) (q : Stand) (r : Row) : Type 0 where
+pub record Passed (v w q : ℕ) (r : Row) : Type 0 where
   pub opened : Opened (w / 256) r
   pub versed : Has v (w / 256)
   pub stands : r.stands ≡ q
@@ -56,17 +55,17 @@ by_tests true false true r r' e = never cc
 by_tests true true z r r' e = never cc
 by_tests false y z r r' e = never cc
 
-pub passed : (v : ℕ) (q : Stand) (w : ℕ) (r : Row) → (q ≡ nowhere → ⊥) → head_of v q w ≡ Opens r → Passed v w q r
+pub passed : (v q w : ℕ) (r : Row) → 0 < q → head_of v q w ≡ Opens r → Passed v w q r
 unfolding head_of allowed row_of
 passed v q w r h e =
     let o : Row = row_of w in
     let t = by_tests (allowed o v q) (ltb (w % 256) o.low) (ltb o.high (w % 256)) o r e in
-    let a = (and-eq-true_iff (same_stand o.stands q) (leb o.first v && leb v o.last)).0 t.0 in
+    let a = (and-eq-true_iff (eqb o.stands q) (leb o.first v && leb v o.last)).0 t.0 in
     let b = (and-eq-true_iff (leb o.first v) (leb v o.last)).0 a.1 in
-    let s : o.stands ≡ q = stand_is o.stands q a.0 in
+    let s : o.stands ≡ q = eqb-true o.stands q a.0 in
     let p : Passed v w q o
     = record {
-      opened = opened_at (w / 256) (λ z. h (sym s ∙ z));
+      opened = opened_at (w / 256) (omega arith);
       versed = record { since = leb-true o.first v b.0; until = leb-true v o.last b.1 };
       stands = s;
       low = ltb-false (w % 256) o.low t.1;

@@ -29,9 +29,9 @@ decreases-list l = rank l.level.left 3
 
 abbrev pub invariant-arms-loop-i : goal.invariant-arms-loop-i
 invariant-arms-loop-i l = record {
-  read : joined_of false l.arms.words (arms_step (arms_of (in_version l.self.version.0) l.self.words.now (term (in_version l.self.version.0) l.self.words.now (l.level.left - 1))
+  read : joined_of false l.arms.words (arms_step (arms_of (in_version l.self.version) l.self.words.now (term (in_version l.self.version) l.self.words.now (l.level.left - 1))
       (unmarked (take l.i l.marks)) l.level.bound (l.count - l.i) l.arms.to))
-      ≡ arms_step (arms_of (in_version l.self.version.0) l.self.words.now (term (in_version l.self.version.0) l.self.words.now (l.level.left - 1)) [] l.level.bound l.count l.at);
+      ≡ arms_step (arms_of (in_version l.self.version) l.self.words.now (term (in_version l.self.version) l.self.words.now (l.level.left - 1)) [] l.level.bound l.count l.at);
   no_atoms : l.arms.atoms ≡ false;
   few : l.arms.words ≤ 2 * small * l.i;
   table : length l.marks ≡ most_arms;
@@ -39,7 +39,7 @@ invariant-arms-loop-i l = record {
 
 abbrev pub invariant-list-loop : goal.invariant-list-loop
 invariant-list-loop l = record {
-  read : joined_of l.list.atoms l.list.words (terms_step (many (term (in_version l.self.version.0) l.self.words.now l.level.left l.level.bound) (l.count - l.counter) l.list.to))
-      ≡ terms_step (many (term (in_version l.self.version.0) l.self.words.now l.level.left l.level.bound) l.count l.at);
+  read : joined_of l.list.atoms l.list.words (terms_step (many (term (in_version l.self.version) l.self.words.now l.level.left l.level.bound) (l.count - l.counter) l.list.to))
+      ≡ terms_step (many (term (in_version l.self.version) l.self.words.now l.level.left l.level.bound) l.count l.at);
   few : l.list.words ≤ 2 * small * l.counter;
 }
