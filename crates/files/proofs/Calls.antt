@@ -11,7 +11,7 @@ use borrow.Author.Tests.{lt-ltb, le-ltb, eq-eqb, ne_eqb, not-true, not-false, lt
 use Rattle.language.specs.Faults.{number_of}
 use Rattle.language.specs.Kinds.{known}
 use Rattle.language.specs.Read.{no_place}
-use Rattle.std.specs.Prelude.{Result, Ok, Err}
+use Rattle.std.specs.Prelude.{Ok, Err}
 use Rattle.language.specs.Calls.{Outcome, success, refusal, reply_of, told, refuses, filled}
 use Rattle.language.specs.declared.Fault.{Fault}
 use Rattle.language.specs.declared.Fault.TheVariants.{NoWords, TooManyWords, NoRoom, WrongMark, WrongVersion, WrongLength}
