@@ -1,16 +1,16 @@
 -- The ways out of the functions that make text, in the words of the code: one law for each.
 -- Assumes nothing.
 use Prim.Native.Nat.{ℕ, zero, suc, ◌+◌, ◌-◌, ◌*◌, ◌/◌, ◌^◌, ◌<◌, ◌≤◌}
-use mathlib.Core.Path.{◌≡◌, refl, sym, ap, ◌∙◌, subst}
+use mathlib.Core.Path.{◌≡◌, refl, sym, ap, ◌∙◌}
 use mathlib.Core.Bool.{Bool, true, false, cond}
-use mathlib.Core.List.{List, [], ◌∷◌, ◌++◌, append_assoc}
+use mathlib.Core.List.{List, [], ◌∷◌, ◌++◌}
 use native.Mathlib.Omega.{arith}
 use native.Mathlib.Nat.{le_antisymm, pow-le-pow_right}
-use native.Mathlib.Numerals.{add-one, towards_suc}
+use Rattle.std.proofs.Common.{zero-add}
 use lib.Dec.{ltb}
-use lib.ListN.{length, get_or, take, drop, set, length-append, drop_of_length-le}
-use lib.Seq.{sets, sets-eq, drop-cons, drop-drop}
-use borrow.Rule.Slice.PartMut.{put_mid}
+use lib.ListN.{length, get_or, take, length-append}
+use lib.Seq.{take-suc}
+use Rattle.std.proofs.lemmas.List.{length-take-le}
 use borrow.Author.Tests.{ltb-true, ltb-false}
 use Rattle.std.specs.Prelude.{Result, Ok, Err}
 use Rattle.io.specs.Counts.{IsPrefixLen}
@@ -20,27 +20,42 @@ use Rattle.language.specs.Read.{no_place}
 use Rattle.language.specs.Calls.{Outcome, reply_of, told, filled}
 use Rattle.language.specs.declared.Fault.TheVariants.{NoRoom}
 use Rattle.language.specs.declared.Refusal.{Refusal}
-use Rattle.language.proofs.Stores.{store_more, store_last, store_rest, filled_short, filled_whole}
+use Rattle.language.proofs.Stores.{filled_short, filled_whole}
+use Rattle.output.specs.Stored.{Room, Put}
+use Rattle.output.proofs.Stored.{put_none, put_then, room_left, put_as}
 use Rattle.listing.specs.Text.{space, newline, end_of, word_text, listed, enough, places_of, decimal_text, number_text, ok_text, no_text, line, reply_text}
 
--- the loop over words: what is still to be stored, stored from where the loop is, gives the whole
-pub next_word : (o goal ws : List ℕ) (at n i : ℕ) {o' : List ℕ} {e : ℕ} → o' ≡ sets o (at + 5 * i) (word_text (get_or ws i 0) e) → e ≡ end_of n i
-    → sets o (at + 5 * i) (listed n i (drop i ws)) ≡ goal → i < length ws → sets o' (at + 5 * (i + 1)) (listed n (i + 1) (drop (i + 1) ws)) ≡ goal
+-- the words so far, and one more
+listed_more : (n i : ℕ) (ws : List ℕ) (w : ℕ) → listed n i (ws ++ (w ∷ [])) ≡ listed n i ws ++ word_text w (end_of n (i + length ws))
 unfolding listed
-next_word o goal ws at n i {e = e} k q g h =
-    store_rest o goal (at + 5 * i) (listed n i (drop i ws)) (word_text (get_or ws i 0) e) (listed n (i + 1) (drop (i + 1) ws)) k g
-    (rw (drop-cons ws i 0 h, q, add-one)) (omega arith)
+listed_more n i [] w = let e : i + 0 ≡ i = omega arith in rw e refl
+listed_more n i (v ∷ ws) w =
+    let e : i + 1 + length ws ≡ i + suc (length ws) = omega arith in
+    ap (λ (l : List ℕ). word_text v (end_of n i) ++ l) (listed_more n (i + 1) ws w ∙ ap (λ (k : ℕ). listed n (i + 1) ws ++ word_text w (end_of n k)) e)
 
-pub words_end : (o goal ws : List ℕ) (at n i : ℕ) → n ≡ length ws → n ≤ i → sets o (at + 5 * i) (listed n i (drop i ws)) ≡ goal → o ≡ goal
+take_more : (ws : List ℕ) (i : ℕ) → i < length ws → take (i + 1) ws ≡ take i ws ++ (get_or ws i 0 ∷ [])
+take_more ws i h = let e : suc i ≡ i + 1 = omega arith in rw e at (take-suc ws i 0 h)
+
+pub next_word : (ws : List ℕ) (n i : ℕ) {o o' o'' : List ℕ} {p k end e : ℕ} → Put (listed n 0 (take i ws)) o p o' k → i < length ws → e ≡ end_of n i
+    → Put (word_text (get_or ws i 0) e) o' k o'' end → Put (listed n 0 (take (i + 1) ws)) o p o'' end
+next_word ws n i f h q g =
+    let l : length (take i ws) ≡ i = length-take-le i ws (omega arith) in
+    put_as (ap (listed n 0) (take_more ws i h) ∙ listed_more n 0 (take i ws) (get_or ws i 0) ∙ rw (l, zero-add, ← q) refl) (put_then f g)
+
+pub no_word : (ws : List ℕ) (n p : ℕ) (o : List ℕ) → Put (listed n 0 (take 0 ws)) o p o p
 unfolding listed
-words_end o goal ws at n i e h g =
-    let l : length ws ≤ i = omega arith in
-    subst (λ (x : List ℕ). sets o (at + 5 * i) (listed n i x) ≡ goal) (drop_of_length-le ws l) g
+no_word ws n p o = put_none o p
 
 listed_length : (n i : ℕ) (ws : List ℕ) → length (listed n i ws) ≡ 5 * length ws
 unfolding listed
 listed_length n i [] = refl
 listed_length n i (w ∷ ws) = omega (arith, listed_length n (i + 1) ws)
+
+-- and the room for the next of them
+pub word_room : (ws : List ℕ) (n i : ℕ) {o o' : List ℕ} {p k : ℕ} → Room o p (5 * length ws) → Put (listed n 0 (take i ws)) o p o' k → i < length ws → Room o' k 5
+word_room ws n i r f h =
+    let l : length (take i ws) ≡ i = length-take-le i ws (omega arith) in
+    room_left 5 f (omega (arith, r.fits, listed_length n 0 (take i ws)))
 
 -- a number's digits: the definition's are the fewest that hold it, as the libraries' are, and no two numbers of digits are the fewest
 one_more : (n k : ℕ) (b : Bool) → ltb (suc n) (10 ^ k) ≡ b → IsDigitCount 10 1 n k → IsDigitCount 10 1 (suc n) (cond b k (suc k))
@@ -74,19 +89,16 @@ spelled n k t f e = e ∙ digits_are n k f
 pub spelled_few : (n k : ℕ) (t : List ℕ) → n < 2 ^ 64 → IsPrefixLen k t → IsDigitCount 10 1 n k → length (take k t) ≤ 20
 spelled_few n k t m c f = let l : k ≤ 20 = no_more n 20 k (omega arith) (omega arith) f in omega (arith, c.1)
 
--- a text stored at a place; and a number behind a space
-pub text_stored : (l ds : List ℕ) (at n : ℕ) {o : List ℕ} → at + length ds ≤ length l → o ≡ ds → n ≡ length ds → put_mid at n l o ≡ sets l at ds
-text_stored l ds at n h e k = rw (e, k) (rw (drop-drop, sets-eq ds l at h, append_assoc))
+-- the room behind two runs, and behind three
+module _ {a b o o' o'' : List ℕ} {p i k : ℕ} (f : Put a o p o' i) (g : Put b o' i o'' k) where
+  pub behind_two : (n : ℕ) → p + length a + length b + n ≤ length o → Room o'' k n
+  behind_two n h = room_left n (put_then f g) (omega (arith, h, length-append a b))
 
-pub number_stored : (l ds : List ℕ) (at : ℕ) {o : List ℕ} → o ≡ sets (set l at space) (at + 1) ds → o ≡ sets l at (space ∷ ds)
-number_stored l ds at e = e ∙ simp towards_suc
+  pub behind_three : {c v : List ℕ} {l : ℕ} (n : ℕ) → Put c o'' k v l → p + length a + length b + length c + n ≤ length o → Room v l n
+  behind_three {c} n r h = room_left n (put_then (put_then f g) r) (omega (arith, h, length-append a b, length-append (a ++ b) c))
 
--- a line: its start is stored, and its end behind it
 line_length : (start : List ℕ) → length (line start) ≡ length start + 1
 line_length start = length-append start (newline ∷ [])
-
-line_stored : (out start : List ℕ) {o : List ℕ} {n : ℕ} → o ≡ sets out 0 start → n ≡ length start → set o n newline ≡ sets out 0 (line start)
-line_stored out start e k = store_last out 0 start newline e (omega arith)
 
 -- a refusal where there is too little room
 too_short : (ws out : List ℕ) {x : Refusal} → length out < length ws → x ≡ record { fault = NoRoom; place = no_place } → told {A = ℕ} (Err x) out ≡ filled ws out
@@ -94,52 +106,39 @@ too_short ws out h i = rw i (filled_short ws out h)
 
 -- the reply of a refusal
 module _ (e p : ℕ) (out : List ℕ) {ds es : List ℕ} (x : ds ≡ decimal_text e) (y : es ≡ decimal_text p) where
-  refusal_length : length (no_text e ++ number_text p) ≡ 3 + length ds + 1 + length es
-  refusal_length = simp length-append (omega (arith, ap length x, ap length y))
+  refusal_length : length (line (no_text e ++ number_text p)) ≡ 3 + length ds + 1 + length es + 1
+  refusal_length = simp (line_length (no_text e ++ number_text p), length-append) (omega (arith, ap length x, ap length y))
 
-  ended : length (line (no_text e ++ number_text p)) ≡ 3 + length ds + 1 + length es + 1
-  ended = omega (arith, line_length (no_text e ++ number_text p), refusal_length)
-
-  pub refusal_short : {q : Refusal} → length out ≤ 3 + length ds + 1 + length es → q ≡ record { fault = NoRoom; place = no_place }
+  pub refusal_short : {q : Refusal} → length out < 3 + length ds + 1 + length es + 1 → q ≡ record { fault = NoRoom; place = no_place }
       → told {A = ℕ} (Err q) out ≡ filled (line (no_text e ++ number_text p)) out
-  refusal_short h i = too_short (line (no_text e ++ number_text p)) out (omega (arith, ended)) i
+  refusal_short h i = too_short (line (no_text e ++ number_text p)) out (omega (arith, h, refusal_length)) i
 
-  pub refusal_whole : {o o' o'' : List ℕ} → 3 + length ds + 1 + length es < length out → o ≡ sets out 0 (110 ∷ 111 ∷ [])
-      → o' ≡ sets o 2 (space ∷ ds) → o'' ≡ sets o' (3 + length ds) (space ∷ es)
-      → told (Ok (3 + length ds + 1 + length es + 1)) (set o'' (3 + length ds + 1 + length es) newline)
-      ≡ filled (line (no_text e ++ number_text p)) out
-  refusal_whole h f g k =
-      filled_whole (line (no_text e ++ number_text p)) out (omega (arith, ended)) (sym ended)
-      (line_stored out (no_text e ++ number_text p)
-      (store_more out 0 (no_text e) (number_text p)
-      (store_more out 0 (110 ∷ 111 ∷ []) (number_text e) f refl (rw x at g))
-      (omega (arith, ap length x)) (rw y at k)) (sym refusal_length))
+  pub refusal_whole : {o : List ℕ} {end : ℕ} → 3 + length ds + 1 + length es + 1 ≤ length out
+      → Put ((((110 ∷ 111 ∷ []) ++ (space ∷ ds)) ++ (space ∷ es)) ++ (newline ∷ [])) out 0 o end
+      → told (Ok (3 + length ds + 1 + length es + 1)) o ≡ filled (line (no_text e ++ number_text p)) out
+  refusal_whole {o} {end} h f =
+      let w : Put (line (no_text e ++ number_text p)) out 0 o end = put_as (rw (← x, ← y) refl) f in
+      filled_whole (line (no_text e ++ number_text p)) out (omega (arith, h, refusal_length)) (sym refusal_length) w.holds
 
 -- the reply with an image's words
 module _ (n : ℕ) (ws out : List ℕ) {ds : List ℕ} (x : ds ≡ decimal_text n) where
-  start_length : length (ok_text n) ≡ 3 + length ds
-  start_length = omega (arith, ap length x)
+  image_length : length (line (ok_text n) ++ listed (length ws) 0 ws) ≡ 3 + length ds + 1 + 5 * length ws
+  image_length = simp length-append (omega (arith, ap length x, listed_length (length ws) 0 ws))
 
-  text_length : length (line (ok_text n) ++ listed (length ws) 0 ws) ≡ 3 + length ds + 1 + 5 * length ws
-  text_length = simp length-append (omega (arith, start_length, listed_length (length ws) 0 ws))
-
-  pub image_short : {q : Refusal} → length out ≤ 3 + length ds → q ≡ record { fault = NoRoom; place = no_place }
+  pub image_short : {q : Refusal} → length out < 3 + length ds + 1 → q ≡ record { fault = NoRoom; place = no_place }
       → told {A = ℕ} (Err q) out ≡ filled (line (ok_text n) ++ listed (length ws) 0 ws) out
-  image_short h i = too_short (line (ok_text n) ++ listed (length ws) 0 ws) out (omega (arith, text_length)) i
+  image_short h i = too_short (line (ok_text n) ++ listed (length ws) 0 ws) out (omega (arith, h, image_length)) i
 
-  pub words_too_many : {q : Refusal} → 3 + length ds < length out → (length out - (3 + length ds) - 1) / 5 < length ws
+  pub words_too_many : {q : Refusal} → 3 + length ds + 1 ≤ length out → (length out - (3 + length ds + 1)) / 5 < length ws
       → q ≡ record { fault = NoRoom; place = no_place } → told {A = ℕ} (Err q) out ≡ filled (line (ok_text n) ++ listed (length ws) 0 ws) out
-  words_too_many l h i = too_short (line (ok_text n) ++ listed (length ws) 0 ws) out (omega (arith, text_length)) i
+  words_too_many l h i = too_short (line (ok_text n) ++ listed (length ws) 0 ws) out (omega (arith, l, h, image_length)) i
 
-  pub image_whole : {o o' o'' : List ℕ} → 3 + length ds < length out → length ws ≤ (length out - (3 + length ds) - 1) / 5
-      → o ≡ sets out 0 (111 ∷ 107 ∷ []) → o' ≡ sets o 2 (space ∷ ds)
-      → o'' ≡ sets (set o' (3 + length ds) newline) (3 + length ds + 1) (listed (length ws) 0 ws)
-      → told (Ok (3 + length ds + 1 + 5 * length ws)) o'' ≡ filled (line (ok_text n) ++ listed (length ws) 0 ws) out
-  image_whole l h f g k =
-      filled_whole (line (ok_text n) ++ listed (length ws) 0 ws) out (omega (arith, text_length)) (sym text_length)
-      (store_more out 0 (line (ok_text n)) (listed (length ws) 0 ws)
-      (line_stored out (ok_text n) (store_more out 0 (111 ∷ 107 ∷ []) (number_text n) f refl (rw x at g)) (sym start_length))
-      (omega (arith, line_length (ok_text n), start_length)) k)
+  pub image_whole : {o : List ℕ} {end : ℕ} → 3 + length ds + 1 ≤ length out → length ws ≤ (length out - (3 + length ds + 1)) / 5
+      → Put ((((111 ∷ 107 ∷ []) ++ (space ∷ ds)) ++ (newline ∷ [])) ++ listed (length ws) 0 ws) out 0 o end
+      → told (Ok (3 + length ds + 1 + 5 * length ws)) o ≡ filled (line (ok_text n) ++ listed (length ws) 0 ws) out
+  image_whole {o} {end} l h f =
+      let w : Put (line (ok_text n) ++ listed (length ws) 0 ws) out 0 o end = put_as (rw (← x) refl) f in
+      filled_whole (line (ok_text n) ++ listed (length ws) 0 ws) out (omega (arith, l, h, image_length)) (sym image_length) w.holds
 
 -- the whole answer, by the reply
 pub refusal_shown : {a : Result ℕ Refusal} {q : Refusal} {x : Outcome ℕ} (ws out : List ℕ)

@@ -3,12 +3,13 @@
 #![tactic(auto)]
 
 ghost use Rattle.std.specs.Prelude.{◌≡◌, ◌+◌, ◌*◌, ◌≤◌, ◌<◌, ◌∷◌, ◌++◌, length};
-ghost use Rattle.std.proofs.lemmas.List.Edits.{sets};
 ghost use Rattle.language.specs.Faults.{number_of};
 ghost use Rattle.language.specs.Calls.{reply_of, told, filled};
+ghost use Rattle.output.specs.Stored.{HasRoom, Writes};
 ghost use Rattle.listing.specs.Text.{space, hex_digit, end_of, word_text, listed, decimal_text, number_text, ok_text, no_text, line, reply_text};
 
 use language::{Fault, Refusal};
+use output::Output;
 
 const SPACE: u8 = b' ';
 
@@ -49,38 +50,30 @@ fn end_of(n: usize, i: usize) -> u8
     SPACE
 }
 
-// A text at a place.
-#[tactic(auto, using(crate::proofs::Ways::text_stored))]
-fn put_text(out: &mut [u8], at: usize, text: &[u8])
-    requires { at + length text.now ≤ length out.old }
-    ensures { out.new ≡ sets out.old at text.now }
-{
-    out[at..at + text.len()].copy_from_slice(text);
-}
-
 // A word's four digits, and what stands after them.
-pub fn put_word(out: &mut [u8], at: usize, w: u16, end: u8)
-    requires { at + 5 ≤ length out.old }
-    ensures { out.new ≡ sets out.old at (word_text w end) }
+pub fn put_word(out: &mut Output<'_, u8>, w: u16, end: u8)
+    requires { HasRoom out.old 5 }
+    ensures same_reference { out.new.words.ghost_name ≡ out.old.words.ghost_name }
+    ensures put { Writes (word_text w end) out.old out.new }
 {
-    let text = [
+    out.put_all(&[
         hex_digit(w / 4096),
         hex_digit(w / 256 % 16),
         hex_digit(w / 16 % 16),
         hex_digit(w % 16),
         end,
-    ];
-    put_text(out, at, &text);
+    ]);
 }
 
 // The words, eight to a line.
-pub fn put_words(out: &mut [u8], at: usize, words: &[u16])
-    requires { at + 5 * length words.now ≤ length out.old }
-    ensures { out.new ≡ sets out.old at (listed (length words.now) 0 words.now) }
+pub fn put_words(out: &mut Output<'_, u8>, words: &[u16])
+    requires { HasRoom out.old (5 * length words.now) }
+    ensures same_reference { out.new.words.ghost_name ≡ out.old.words.ghost_name }
+    ensures put { Writes (listed (length words.now) 0 words.now) out.old out.new }
 {
     let n = words.len();
     for (i, word) in words.iter().enumerate() {
-        put_word(out, at + WORD_BYTES * i, *word, end_of(n, i));
+        put_word(out, *word, end_of(n, i));
     }
 }
 
@@ -95,33 +88,33 @@ fn digits(buffer: &mut [u8; MOST_DIGITS], n: u64) -> &[u8]
 }
 
 // A space and a number's digits.
-#[tactic(auto, using(crate::proofs::Ways::number_stored))]
-fn put_number(out: &mut [u8], at: usize, digits: &[u8])
-    requires { at + 1 + length digits.now ≤ length out.old }
-    ensures { out.new ≡ sets out.old at (space ∷ digits.now) }
+fn put_number(out: &mut Output<'_, u8>, digits: &[u8])
+    requires { HasRoom out.old (1 + length digits.now) }
+    ensures same_reference { out.new.words.ghost_name ≡ out.old.words.ghost_name }
+    ensures put { Writes (space ∷ digits.now) out.old out.new }
 {
-    out[at] = SPACE;
-    put_text(out, at + 1, digits);
+    out.put(SPACE);
+    out.put_all(digits);
 }
 
 // A refusal's number and its place.
-#[tactic(auto, using(crate::proofs::Ways::refusal_short, crate::proofs::Ways::refusal_whole))]
+#[tactic(auto, using(crate::proofs::Ways::refusal_short))]
 fn show_refusal(out: &mut [u8], refusal: Refusal) -> Result<usize, Refusal>
     ensures { told result out.new ≡ filled (line (no_text (number_of refusal.fault) ++ number_text refusal.place)) out.old }
 {
     let (mut number_buffer, mut place_buffer) = ([0; MOST_DIGITS], [0; MOST_DIGITS]);
     let number = digits(&mut number_buffer, refusal.fault.number() as u64);
     let place = digits(&mut place_buffer, refusal.place as u64);
-    let next = REPLY_BYTES + 1 + number.len();
-    let end = next + 1 + place.len();
-    if out.len() <= end {
+    let size = REPLY_BYTES + 1 + number.len() + 1 + place.len() + 1;
+    if out.len() < size {
         return Err(Fault::NoRoom.into());
     }
-    put_text(out, 0, b"no");
-    put_number(out, REPLY_BYTES, number);
-    put_number(out, next, place);
-    out[end] = NEWLINE;
-    Ok(end + 1)
+    let mut text = Output { words: out, pos: 0 };
+    text.put_all(b"no");
+    put_number(&mut text, number);
+    put_number(&mut text, place);
+    text.put(NEWLINE);
+    Ok(size)
 }
 
 // An image's count and its words.
@@ -131,18 +124,19 @@ fn show_image(out: &mut [u8], n: usize, words: &[u16]) -> Result<usize, Refusal>
 {
     let mut buffer = [0; MOST_DIGITS];
     let number = digits(&mut buffer, n as u64);
-    let end = REPLY_BYTES + 1 + number.len();
-    if out.len() <= end {
+    let start = REPLY_BYTES + 1 + number.len() + 1;
+    if out.len() < start {
         return Err(Fault::NoRoom.into());
     }
-    if (out.len() - end - 1) / WORD_BYTES < words.len() {
+    if (out.len() - start) / WORD_BYTES < words.len() {
         return Err(Fault::NoRoom.into());
     }
-    put_text(out, 0, b"ok");
-    put_number(out, REPLY_BYTES, number);
-    out[end] = NEWLINE;
-    put_words(out, end + 1, words);
-    Ok(end + 1 + WORD_BYTES * words.len())
+    let mut text = Output { words: out, pos: 0 };
+    text.put_all(b"ok");
+    put_number(&mut text, number);
+    text.put(NEWLINE);
+    put_words(&mut text, words);
+    Ok(start + WORD_BYTES * words.len())
 }
 
 // The bench program's whole answer, at the front of the output: a line with the reply, and on success the image's words.

@@ -1,11 +1,13 @@
--- `listing::put_words`: a word stored leaves one word less to store, and at the end nothing is left.
-use Rattle.std.proofs.Common.{arith}
-use Rattle.listing.proofs.Ways.{next_word, words_end}
+-- `listing::put_words`: before the first word nothing is written, and in each turn one more is, for which there is room.
+use Rattle.std.proofs.Common.{rules}
+use Rattle.listing.proofs.Ways.{no_word, word_room, next_word}
 use Rattle.listing.proofs.put_words.Goals as goal
 
-pub loop-i-preserved : goal.loop-i-preserved
-loop-i-preserved c =
-    next_word _ _ c.args.words.now _ _ _ c.put_word.ensures c.end_of.ensures c.loop-i.invariant (omega arith)
+pub loop-i-init : goal.loop-i-init
+loop-i-init c = search (no_word, rules)
 
-pub returns : goal.returns
-returns c = words_end _ _ c.args.words.now _ _ c.loop-i.i (omega arith) (omega arith) c.loop-i.invariant
+pub put_word-requires : goal.put_word-requires
+put_word-requires c = search (word_room, rules)
+
+pub loop-i-preserved : goal.loop-i-preserved
+loop-i-preserved c = search (next_word, rules)
