@@ -5,12 +5,11 @@ use mathlib.Core.Path.{◌≡◌, refl, sym, ap, subst, ◌∙◌}
 use mathlib.Core.List.{List, [], ◌∷◌, ◌++◌}
 use native.Mathlib.Omega.{arith}
 use lib.ListN.{length, get_or, take}
-use lib.Seq.{take-suc}
 use Rattle.std.proofs.lemmas.List.{length-take-le}
 use Rattle.language.specs.Kinds.{most_arguments, most_byte}
 use Rattle.ticks.specs.Tick.{Closure, Closures, c_nil, c_cons, sizeᶜ}
 use Rattle.output.specs.Stored.{Room, Put}
-use Rattle.output.proofs.Stored.{put_none, put_then, room_left}
+use Rattle.output.proofs.Stored.{put_none, put_then, room_left, take_more}
 use Rattle.records.specs.Links.{record_words, low, high, links}
 use Rattle.records.specs.Grades.{raised, grade, grades, last, lasts, capped}
 use Rattle.records.specs.Memory.{a_constructor, Val, v_con, Vals, v_nil, v_cons}
@@ -40,12 +39,9 @@ last_of (x ∷ vs) (v_cons {c = c} u us) =
       ended = λ l. r.ended (capped (l + last c + 1));
     }
 
-take_more : (vs : List ℕ) (i : ℕ) → i < length vs → take (i + 1) vs ≡ take i vs ++ (get_or vs i 0 ∷ [])
-take_more vs i h = let e : suc i ≡ i + 1 = omega arith in rw e at (take-suc vs i 0 h)
-
 pub s_more : (m vs : List ℕ) {i g l x y : ℕ} → Summed m (take i vs) g l → i < length vs → Tells m (get_or vs i 0) x y
     → Summed m (take (i + 1) vs) (max g x) (capped (l + y + 1))
-s_more m vs {i} {g} {l} {x} {y} z h t = subst (λ (us : List ℕ). Summed m us (max g x) (capped (l + y + 1))) (sym (take_more vs i h)) record {
+s_more m vs {i} {g} {l} {x} {y} z h t = subst (λ (us : List ℕ). Summed m us (max g x) (capped (l + y + 1))) (sym (take_more 0 vs i h)) record {
   graded = λ s n cs u. let r = last_of (take i vs) u in rw (z.graded s n r.front r.others, t.graded s n r.c r.value) (sym (r.graded 0));
   ended = λ s n cs u. let r = last_of (take i vs) u in rw (z.ended s n r.front r.others, t.ended s n r.c r.value) (sym (r.ended 1));
 }
@@ -67,7 +63,7 @@ p_none = put_none
 
 pub p_more : (vs : List ℕ) {m₀ m m' : List ℕ} {at next next' i x y : ℕ} → Put (links (take i vs)) m₀ at m next → i < length vs → x ≡ low (get_or vs i 0)
     → y ≡ high (get_or vs i 0) → Put (x ∷ y ∷ []) m next m' next' → Put (links (take (i + 1) vs)) m₀ at m' next'
-p_more vs {i = i} p h e f q = rw (take_more vs i h, links_more (take i vs) (get_or vs i 0)) (put_then p (rw (e, f) at q))
+p_more vs {i = i} p h e f q = rw (take_more 0 vs i h, links_more (take i vs) (get_or vs i 0)) (put_then p (rw (e, f) at q))
 
 -- and there is room for the next of them
 pub p_room : (vs : List ℕ) {m₀ m : List ℕ} {at next i : ℕ} → Room m₀ at (2 * length vs) → Put (links (take i vs)) m₀ at m next → i < length vs → Room m next 2

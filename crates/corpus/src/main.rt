@@ -66,7 +66,11 @@ fn print_short<W: Write>(out: &mut W, image: &[u16]) -> io::Result<()> {
         return Ok(());
     }
     let mut text = [0u8; SHORT_TEXT];
-    listing::put_words(&mut text, 0, image);
+    let mut listed = Output {
+        words: &mut text,
+        pos: 0,
+    };
+    listing::put_words(&mut listed, image);
     let size = WORD_TEXT * image.len();
     out.write_all(&text[..size])
 }

@@ -3,7 +3,7 @@
 use Prim.Native.Nat.{ℕ, ◌+◌, ◌*◌, ◌<◌, ◌≤◌}
 use mathlib.Core.Path.{◌≡◌, refl, sym, ap, ◌∙◌}
 use mathlib.Core.Bool.{Bool, true, false, cond, not, and-eq-true_iff}
-use mathlib.Core.List.{List, [], ◌∷◌}
+use mathlib.Core.List.{List, ◌++◌}
 use native.Mathlib.Omega.{arith}
 use lib.ListN.{length}
 use lib.Seq.{sets}
@@ -20,21 +20,12 @@ use Rattle.language.proofs.Clash.{never}
 use Rattle.language.proofs.Stores.{filled_short, filled_whole}
 use Rattle.files.specs.Files.{most, header_bytes, header, bytes_of, packed, words_at, version_in, count_in, marked, packing, taking, versed, unpacking, unpacked_reply, told_unpacked}
 use Rattle.files.specs.declared.Form.{Form}
-use Rattle.files.proofs.Stores.{words_at_length}
-
-bytes_length : (ws : List ℕ) → length (bytes_of ws) ≡ 2 * length ws
-unfolding bytes_of
-bytes_length [] = refl
-bytes_length (w ∷ ws) = omega (arith, bytes_length ws)
+use Rattle.output.specs.Stored.{Put}
+use Rattle.files.proofs.Stores.{bytes_length, words_at_length}
 
 pub packed_length : (f : Form) (v : ℕ) (ws : List ℕ) → length (packed f v ws) ≡ header_bytes + 2 * length ws
 unfolding packed
 packed_length f v ws = omega (arith, bytes_length ws)
-
--- the header and the words stored one after the other are the file stored
-sets_packed : (f : Form) (v : ℕ) (l ws : List ℕ) → sets (sets l 0 (header f v (length ws))) header_bytes (bytes_of ws) ≡ sets l 0 (packed f v ws)
-unfolding packed
-sets_packed f v l ws = refl
 
 -- a refusal that tests no word
 abbrev pub Placeless : Fault → Refusal → Type 0
@@ -71,11 +62,11 @@ module _ (f : Form) (v : ℕ) (ws out : List ℕ) {b : Bool} (q : b ≡ known v)
           → told {A = ℕ} (Err x) out ≡ packing f v ws out
       pack_short l k i = rw i (filled_short (packed f v ws) out (rw packed_length k) ∙ sym (packs l))
 
-      pub pack_whole : {o o' : List ℕ} → length ws ≤ m → header_bytes + 2 * length ws ≤ length out → o' ≡ sets out 0 (header f v (length ws))
-          → o ≡ sets o' header_bytes (bytes_of ws) → told (Ok (header_bytes + 2 * length ws)) o ≡ packing f v ws out
-      pack_whole l k x y =
-          filled_whole (packed f v ws) out (rw packed_length k) (rw packed_length)
-          (y ∙ ap (λ l. sets l header_bytes (bytes_of ws)) x ∙ sets_packed f v out ws)
+      pub pack_whole : {o : List ℕ} {end : ℕ} → length ws ≤ m → header_bytes + 2 * length ws ≤ length out
+          → Put (header f v (length ws) ++ bytes_of ws) out 0 o end → told (Ok (header_bytes + 2 * length ws)) o ≡ packing f v ws out
+      unfolding packed
+      pack_whole l k x =
+          filled_whole (packed f v ws) out (rw packed_length k) (rw packed_length) x.holds
           ∙ sym (packs l)
 
 -- a file with a mark is long enough for its header

@@ -2,37 +2,62 @@
 -- Assumes nothing.
 use Prim.Native.Nat.{ℕ, zero, suc, ◌+◌, ◌-◌, ◌*◌, ◌/◌, ◌%◌, ◌^◌, ◌<◌, ◌≤◌}
 use mathlib.Core.Path.{◌≡◌, refl, sym, ap, ap₂, ◌∙◌, subst}
-use mathlib.Core.List.{List, [], ◌∷◌, ◌++◌, append_assoc, append-nil}
+use mathlib.Core.List.{List, [], ◌∷◌, ◌++◌, append-nil}
 use native.Mathlib.Omega.{arith}
-use native.Mathlib.Numerals.{add-one}
-use lib.ListN.{length, get_or, drop, set, drop_of_length-le}
-use lib.Seq.{sets, sets-eq, drop-cons, drop-drop}
-use borrow.Rule.Slice.PartMut.{put_mid}
+use lib.ListN.{length, length-append, get_or, take, drop, set, drop_of_length-le}
+use lib.Seq.{sets}
+use Rattle.std.proofs.lemmas.List.{length-take-le}
 use Rattle.language.proofs.Stores.{store_rest, at_front}
+use Rattle.output.specs.Stored.{Room, Put}
+use Rattle.output.proofs.Stored.{put_none, put_then, room_left, put_as, take_more}
 use Rattle.files.specs.Files.{mark_l, mark_r, third, header_bytes, header, bytes_of, word_at, words_at}
 use Rattle.files.specs.declared.Form.{Form}
 
--- a part of a run that is written over
-put_part : (l xs : List ℕ) (at n : ℕ) → n ≡ length xs → at + n ≤ length l → put_mid at n l xs ≡ sets l at xs
-put_part l xs at n e h = rw e (rw (drop-drop, sets-eq xs l at (omega arith), append_assoc))
-
 -- a word's two bytes
-pub stored_word : (l : List ℕ) (at w n : ℕ) {xs : List ℕ} → at + 2 ≤ length l → n ≡ 2 → xs ≡ w % 256 ∷ w / 256 % 256 ∷ [] → w < 2 ^ 16
-    → put_mid at n l xs ≡ sets l at (bytes_of (w ∷ []))
+pub word_put : (w : ℕ) {xs o o' : List ℕ} {p end : ℕ} → w < 2 ^ 16 → xs ≡ w % 256 ∷ w / 256 % 256 ∷ [] → Put xs o p o' end → Put (bytes_of (w ∷ [])) o p o' end
 unfolding bytes_of
-stored_word l at w n {xs} h e x f =
+word_put w f x q =
     let high : w / 256 % 256 ≡ w / 256 = omega arith in
-    put_part l xs at n (e ∙ sym (ap length x)) (omega arith) ∙ ap (sets l at) (x ∙ ap (λ b. w % 256 ∷ b ∷ []) high)
+    put_as (ap (λ b. w % 256 ∷ b ∷ []) (sym high) ∙ sym x) q
 
 -- the seven bytes of a header
-pub stored_header : (f : Form) (l : List ℕ) (v n : ℕ) {xs o p : List ℕ} → header_bytes ≤ length l → xs ≡ mark_l ∷ mark_r ∷ third f ∷ []
-    → o ≡ sets (put_mid 0 3 l xs) 3 (bytes_of (v ∷ [])) → p ≡ sets o 5 (bytes_of (n ∷ [])) → p ≡ sets l 0 (header f v n)
+pub header_put : (f : Form) (v n : ℕ) {xs o o' o'' u : List ℕ} {p i j end : ℕ} → xs ≡ mark_l ∷ mark_r ∷ third f ∷ [] → Put xs o p o' i
+    → Put (bytes_of (v ∷ [])) o' i o'' j → Put (bytes_of (n ∷ [])) o'' j u end → Put (header f v n) o p u end
 unfolding bytes_of
-stored_header f l v n {xs} h e a b =
-    let m : put_mid 0 3 l xs ≡ sets l 0 xs = put_part l xs 0 3 (sym (ap length e)) (omega arith) in
-    b ∙ ap (λ o. sets o 5 (bytes_of (n ∷ []))) (a ∙ ap (λ o. sets o 3 (bytes_of (v ∷ []))) (m ∙ ap (sets l 0) e))
+header_put f v n e a b c = put_then (put_then (put_as (sym e) a) b) c
 
--- The loops: what is still to be stored, stored from where the loop is, gives what is to be stored in all.
+pub header_room : (f : Form) (v : ℕ) {xs o o' o'' : List ℕ} {p i j : ℕ} → Room o p header_bytes → xs ≡ mark_l ∷ mark_r ∷ third f ∷ [] → Put xs o p o' i
+    → Put (bytes_of (v ∷ [])) o' i o'' j → Room o'' j 2
+unfolding bytes_of
+header_room f v {xs} r e a b =
+    room_left 2 (put_then a b) (omega (arith, r.fits, ap length e, length-append xs (v % 256 ∷ v / 256 ∷ [])))
+
+-- the words of a file so far, and one more
+bytes_more : (ws : List ℕ) (w : ℕ) → bytes_of (ws ++ (w ∷ [])) ≡ bytes_of ws ++ bytes_of (w ∷ [])
+unfolding bytes_of
+bytes_more [] w = refl
+bytes_more (v ∷ ws) w = ap (λ (l : List ℕ). v % 256 ∷ v / 256 ∷ l) (bytes_more ws w)
+
+pub bytes_length : (ws : List ℕ) → length (bytes_of ws) ≡ 2 * length ws
+unfolding bytes_of
+bytes_length [] = refl
+bytes_length (w ∷ ws) = omega (arith, bytes_length ws)
+
+pub no_bytes : (ws : List ℕ) (p : ℕ) (o : List ℕ) → Put (bytes_of (take 0 ws)) o p o p
+unfolding bytes_of
+no_bytes ws p o = put_none o p
+
+pub next_bytes : (ws : List ℕ) (i : ℕ) {o o' o'' : List ℕ} {p k end : ℕ} → Put (bytes_of (take i ws)) o p o' k → i < length ws
+    → Put (bytes_of (get_or ws i 0 ∷ [])) o' k o'' end → Put (bytes_of (take (i + 1) ws)) o p o'' end
+next_bytes ws i f h g = put_as (ap bytes_of (take_more 0 ws i h) ∙ bytes_more (take i ws) (get_or ws i 0)) (put_then f g)
+
+-- and the room for the next of them
+pub bytes_room : (ws : List ℕ) (i : ℕ) {o o' : List ℕ} {p k : ℕ} → Room o p (2 * length ws) → Put (bytes_of (take i ws)) o p o' k → i < length ws → Room o' k 2
+bytes_room ws i r f h =
+    let l : length (take i ws) ≡ i = length-take-le i ws (omega arith) in
+    room_left 2 f (omega (arith, r.fits, bytes_length (take i ws)))
+
+-- In the loop that takes words: what is still to be stored, stored from where the loop is, gives what is to be stored in all.
 -- The words of a file, one by one, in a run that is as long as they are many.
 pub words_at_length : (bs : List ℕ) (i n : ℕ) → length (words_at bs i n) ≡ n
 unfolding words_at
@@ -65,15 +90,3 @@ words_end o xs bs from i n l h g =
     let e : xs ≡ words_at bs from n = subst (λ (x : ℕ). sets xs i (words_at bs (from + 2 * i) x) ≡ words_at bs from n) z g in
     let k : length (words_at bs from n) ≡ n = words_at_length bs from n in
     ap (λ r. r ++ drop n o) e ∙ ap (λ m. words_at bs from n ++ drop m o) (sym k) ∙ sym (at_front o (words_at bs from n) (omega arith))
-
--- The bytes of words, two by two.
-pub next_bytes : (o goal ws : List ℕ) (i : ℕ) {o' : List ℕ} → o' ≡ sets o (header_bytes + 2 * i) (bytes_of (get_or ws i 0 ∷ []))
-    → sets o (header_bytes + 2 * i) (bytes_of (drop i ws)) ≡ goal → i < length ws → sets o' (header_bytes + 2 * (i + 1)) (bytes_of (drop (i + 1) ws)) ≡ goal
-unfolding bytes_of
-next_bytes o goal ws i e g h =
-    store_rest o goal (header_bytes + 2 * i) (bytes_of (drop i ws)) (bytes_of (get_or ws i 0 ∷ [])) (bytes_of (drop (i + 1) ws)) e g
-    (rw (drop-cons ws i 0 h, add-one)) (omega arith)
-
-pub bytes_end : (o goal ws : List ℕ) (i : ℕ) → length ws ≤ i → sets o (header_bytes + 2 * i) (bytes_of (drop i ws)) ≡ goal → o ≡ goal
-unfolding bytes_of
-bytes_end o goal ws i h g = subst (λ (x : List ℕ). sets o (header_bytes + 2 * i) (bytes_of x) ≡ goal) (drop_of_length-le ws h) g

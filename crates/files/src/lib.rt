@@ -6,9 +6,11 @@ ghost use Rattle.std.specs.Prelude.{◌≡◌, ◌+◌, ◌*◌, ◌≤◌, [], 
 ghost use Rattle.std.proofs.lemmas.List.Edits.{sets};
 ghost use Rattle.language.specs.Limits.{most_image_words};
 ghost use Rattle.language.specs.Calls.{told};
+ghost use Rattle.output.specs.Stored.{HasRoom, Writes};
 ghost use Rattle.files.specs.Files.{mark_l, mark_r, third, most, header_bytes, header, bytes_of, marked, word_at, words_at, packing, taking, unpacking, told_unpacked};
 
 use language::{Fault, Refusal};
+use output::Output;
 
 // What a file holds.
 #[derive(Clone, Copy, PartialEq, Eq)]
@@ -58,28 +60,31 @@ impl Form {
 }
 
 // A word's two bytes, low byte first.
-fn put_word(out: &mut [u8], at: usize, w: u16)
-    requires { at + 2 ≤ length out.old }
-    ensures { out.new ≡ sets out.old at (bytes_of (w ∷ [])) }
+fn put_word(out: &mut Output<'_, u8>, w: u16)
+    requires { HasRoom out.old 2 }
+    ensures same_reference { out.new.words.ghost_name ≡ out.old.words.ghost_name }
+    ensures put { Writes (bytes_of (w ∷ [])) out.old out.new }
 {
-    out[at..at + WORD_BYTES].copy_from_slice(&w.to_le_bytes());
+    out.put_all(&w.to_le_bytes());
 }
 
-fn put_header(out: &mut [u8], form: Form, version: u16, count: u16)
-    requires { header_bytes ≤ length out.old }
-    ensures { out.new ≡ sets out.old 0 (header form version count) }
+fn put_header(out: &mut Output<'_, u8>, form: Form, version: u16, count: u16)
+    requires { HasRoom out.old header_bytes }
+    ensures same_reference { out.new.words.ghost_name ≡ out.old.words.ghost_name }
+    ensures put { Writes (header form version count) out.old out.new }
 {
-    out[..VERSION_AT].copy_from_slice(&form.mark());
-    put_word(out, VERSION_AT, version);
-    put_word(out, COUNT_AT, count);
+    out.put_all(&form.mark());
+    put_word(out, version);
+    put_word(out, count);
 }
 
-fn put_words(out: &mut [u8], words: &[u16])
-    requires { header_bytes + 2 * length words.now ≤ length out.old }
-    ensures { out.new ≡ sets out.old header_bytes (bytes_of words.now) }
+fn put_words(out: &mut Output<'_, u8>, words: &[u16])
+    requires { HasRoom out.old (2 * length words.now) }
+    ensures same_reference { out.new.words.ghost_name ≡ out.old.words.ghost_name }
+    ensures put { Writes (bytes_of words.now) out.old out.new }
 {
-    for (i, word) in words.iter().enumerate() {
-        put_word(out, HEADER + WORD_BYTES * i, *word);
+    for word in words {
+        put_word(out, *word);
     }
 }
 
@@ -102,8 +107,9 @@ pub fn pack(out: &mut [u8], form: Form, version: u16, words: &[u16]) -> Result<u
     if out.len() < size {
         return Err(Fault::NoRoom.into());
     }
-    put_header(out, form, version, count as u16);
-    put_words(out, words);
+    let mut file = Output { words: out, pos: 0 };
+    put_header(&mut file, form, version, count as u16);
+    put_words(&mut file, words);
     Ok(size)
 }
 

@@ -9,7 +9,6 @@ use native.Mathlib.Nat.{le_antisymm, pow-le-pow_right}
 use Rattle.std.proofs.Common.{zero-add}
 use lib.Dec.{ltb}
 use lib.ListN.{length, get_or, take, length-append}
-use lib.Seq.{take-suc}
 use Rattle.std.proofs.lemmas.List.{length-take-le}
 use borrow.Author.Tests.{ltb-true, ltb-false}
 use Rattle.std.specs.Prelude.{Result, Ok, Err}
@@ -22,7 +21,7 @@ use Rattle.language.specs.declared.Fault.TheVariants.{NoRoom}
 use Rattle.language.specs.declared.Refusal.{Refusal}
 use Rattle.language.proofs.Stores.{filled_short, filled_whole}
 use Rattle.output.specs.Stored.{Room, Put}
-use Rattle.output.proofs.Stored.{put_none, put_then, room_left, put_as}
+use Rattle.output.proofs.Stored.{put_none, put_then, room_left, put_as, take_more}
 use Rattle.listing.specs.Text.{space, newline, end_of, word_text, listed, enough, places_of, decimal_text, number_text, ok_text, no_text, line, reply_text}
 
 -- the words so far, and one more
@@ -33,14 +32,11 @@ listed_more n i (v ∷ ws) w =
     let e : i + 1 + length ws ≡ i + suc (length ws) = omega arith in
     ap (λ (l : List ℕ). word_text v (end_of n i) ++ l) (listed_more n (i + 1) ws w ∙ ap (λ (k : ℕ). listed n (i + 1) ws ++ word_text w (end_of n k)) e)
 
-take_more : (ws : List ℕ) (i : ℕ) → i < length ws → take (i + 1) ws ≡ take i ws ++ (get_or ws i 0 ∷ [])
-take_more ws i h = let e : suc i ≡ i + 1 = omega arith in rw e at (take-suc ws i 0 h)
-
 pub next_word : (ws : List ℕ) (n i : ℕ) {o o' o'' : List ℕ} {p k end e : ℕ} → Put (listed n 0 (take i ws)) o p o' k → i < length ws → e ≡ end_of n i
     → Put (word_text (get_or ws i 0) e) o' k o'' end → Put (listed n 0 (take (i + 1) ws)) o p o'' end
 next_word ws n i f h q g =
     let l : length (take i ws) ≡ i = length-take-le i ws (omega arith) in
-    put_as (ap (listed n 0) (take_more ws i h) ∙ listed_more n 0 (take i ws) (get_or ws i 0) ∙ rw (l, zero-add, ← q) refl) (put_then f g)
+    put_as (ap (listed n 0) (take_more 0 ws i h) ∙ listed_more n 0 (take i ws) (get_or ws i 0) ∙ rw (l, zero-add, ← q) refl) (put_then f g)
 
 pub no_word : (ws : List ℕ) (n p : ℕ) (o : List ℕ) → Put (listed n 0 (take 0 ws)) o p o p
 unfolding listed

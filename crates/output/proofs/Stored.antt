@@ -1,12 +1,12 @@
 -- Words written one run after another, and the room that is left for the next; and a run of words that is copied into lent memory is stored word by
 -- word.
 -- Assumes nothing.
-use Prim.Native.Nat.{ℕ, ◌+◌, ◌-◌, ◌≤◌}
+use Prim.Native.Nat.{ℕ, suc, ◌+◌, ◌-◌, ◌<◌, ◌≤◌}
 use mathlib.Core.Path.{◌≡◌, refl, sym, ap, subst}
-use mathlib.Core.List.{List, [], ◌++◌, append_assoc}
+use mathlib.Core.List.{List, [], ◌∷◌, ◌++◌, append_assoc}
 use native.Mathlib.Omega.{arith}
-use lib.ListN.{length, length-append}
-use lib.Seq.{sets, sets-eq, drop-drop, length-sets}
+use lib.ListN.{length, length-append, get_or, take}
+use lib.Seq.{sets, sets-eq, drop-drop, length-sets, take-suc}
 use borrow.Rule.Slice.PartMut.{put_mid}
 use Rattle.language.proofs.Stores.{store_more}
 use Rattle.output.specs.Stored.{Room, Put}
@@ -37,3 +37,7 @@ module _ {A : Type 0} where
 
   pub put_as : {a b o o' : List A} {p end : ℕ} → a ≡ b → Put b o p o' end → Put a o p o' end
   put_as {o = o} {o'} {p} {end} e f = subst (λ (l : List A). Put l o p o' end) (sym e) f
+
+-- in a loop over words: one word more than the first i
+pub take_more : {A : Type 0} (d : A) (xs : List A) (i : ℕ) → i < length xs → take (i + 1) xs ≡ take i xs ++ (get_or xs i d ∷ [])
+take_more d xs i h = let e : suc i ≡ i + 1 = omega arith in rw e at (take-suc xs i d h)

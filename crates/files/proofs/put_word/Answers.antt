@@ -1,7 +1,6 @@
--- `files::put_word` meets its contract.
-use Rattle.std.proofs.Common.{arith, ◌∙◌}
-use Rattle.files.proofs.Stores.{stored_word}
+-- `files::put_word` meets its contract: the library's two bytes are the definition's.
+use Rattle.files.proofs.Stores.{word_put}
 use Rattle.files.proofs.put_word.Goals as goal
 
-pub returns : goal.returns
-returns c = stored_word _ _ _ _ c.requires (omega arith) (c.copy_from_slice.ensures.after ∙ c.to_le_bytes.ensures) c.ranges.w.fits
+pub returns-clause-put : goal.returns-clause-put
+returns-clause-put c = word_put _ c.ranges.w.fits c.to_le_bytes.ensures c.put_all.ensures.put

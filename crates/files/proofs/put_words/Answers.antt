@@ -1,10 +1,13 @@
--- `files::put_words` meets its contract: one word more is stored in each turn.
-use Rattle.std.proofs.Common.{arith}
-use Rattle.files.proofs.Stores.{next_bytes, bytes_end}
+-- `files::put_words` meets its contract: one word more is written in each turn, and there is room for it.
+use Rattle.std.proofs.Common.{rules}
+use Rattle.files.proofs.Stores.{no_bytes, bytes_room, next_bytes}
 use Rattle.files.proofs.put_words.Goals as goal
 
-pub loop-i-preserved : goal.loop-i-preserved
-loop-i-preserved c = next_bytes _ _ c.args.words.now _ c.put_word.ensures c.loop-i.invariant (omega arith)
+pub loop-word-init : goal.loop-word-init
+loop-word-init c = search (no_bytes, rules)
 
-pub returns : goal.returns
-returns c = bytes_end _ _ c.args.words.now c.loop-i.i (omega arith) c.loop-i.invariant
+pub put_word-requires : goal.put_word-requires
+put_word-requires c = search (bytes_room, rules)
+
+pub loop-word-preserved : goal.loop-word-preserved
+loop-word-preserved c = search (next_bytes, rules)

@@ -1,9 +1,8 @@
--- `files::put_words` meets its contract. The loop keeps: what is still to be stored, stored from i on, gives the whole.
-use Rattle.std.proofs.Common.{◌≡◌, ◌+◌, ◌*◌}
-use Rattle.std.proofs.Math.ListN.{drop}
-use Rattle.std.proofs.lemmas.List.Edits.{sets}
-use Rattle.files.specs.Files.{header_bytes, bytes_of}
+-- `files::put_words` meets its contract. The loop keeps: the words so far are written.
+use Rattle.std.proofs.Common.{◌≡◌, take}
+use Rattle.output.specs.Stored.{Writes}
+use Rattle.files.specs.Files.{bytes_of}
 use Rattle.files.proofs.put_words.Given as goal
 
-abbrev pub invariant-loop-i : goal.invariant-loop-i
-invariant-loop-i l = sets l.out (header_bytes + 2 * l.i) (bytes_of (drop l.i l.words)) ≡ sets l.fn.out header_bytes (bytes_of l.words)
+abbrev pub invariant-loop-word : goal.invariant-loop-word
+invariant-loop-word l = (l.out.words.ghost_name ≡ l.fn.out.words.ghost_name) × Writes (bytes_of (take l.word-index l.words)) l.fn.out l.out
