@@ -6,6 +6,7 @@
 ghost use Rattle.std.specs.Prelude.{◌≡◌, ◌*◌, ◌<◌, ◌≤◌, length, IfSome};
 
 use desk::Failure;
+use output::Output;
 use std::io;
 use std::io::{Read, Write};
 

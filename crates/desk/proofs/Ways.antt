@@ -96,11 +96,11 @@ unfolding outcome_text count_of reply_text
 reply_text_is (success n) ws = refl
 reply_text_is (refusal e p) ws = refl
 
-pub a_shown : (bs text : List ℕ) (a : Result ℕ Refusal) {r : ℕ} {o : List ℕ} {x : Outcome ℕ} → Counts a r → Translates bs image_zeros a o
-    → x ≡ filled (reply_text (reply_of a) (take r o)) text → x ≡ filled (answer_text bs) text
+pub a_shown : (bs text : List ℕ) (a : Result ℕ Refusal) {r : ℕ} {o : List ℕ} {x : Outcome ℕ} {q : Reply ℕ} → Counts a r → Translates bs image_zeros a o
+    → q ≡ reply_of a → x ≡ filled (reply_text q (take r o)) text → x ≡ filled (answer_text bs) text
 unfolding answer_text
-a_shown bs text a {r} {o} c t e =
-    e ∙ ap (λ n. filled (reply_text (reply_of a) (take n o)) text) c.is ∙ ap (λ ws. filled ws text) (reply_text_is (reply_of a) o)
+a_shown bs text a {r} {o} c t k e =
+    e ∙ ap (λ p. filled (reply_text p (take r o)) text) k ∙ ap (λ n. filled (reply_text (reply_of a) (take n o)) text) c.is ∙ ap (λ ws. filled ws text) (reply_text_is (reply_of a) o)
     ∙ ap (λ x. filled (outcome_text x.reply x.output) text) t.is
 
 -- the part of the text that is printed

@@ -3,11 +3,13 @@
 #![tactic(auto)]
 
 ghost use Rattle.std.specs.Prelude.{◌≡◌, ◌≤◌, length, IfOk};
-ghost use Rattle.language.specs.Calls.{told, filled};
+ghost use Rattle.language.specs.Calls.{reply_of, told, filled};
+ghost use Rattle.listing.specs.Printed.{printed};
 ghost use Rattle.desk.specs.Desk.{Counts, Translates, answer_text};
 
 use files::Form;
 use language::{Fault, Refusal};
+use listing::Numbered;
 use std::io;
 use std::io::{Read, Write};
 
@@ -59,6 +61,14 @@ fn counted(answer: Result<usize, Refusal>) -> usize
     answer.unwrap_or(0)
 }
 
+// The reply as it is printed.
+#[tactic(auto, unfolding(language::specs::Calls::reply_of))]
+fn numbered(reply: Result<usize, Refusal>) -> Result<usize, Numbered>
+    ensures { printed result ≡ reply_of reply }
+{
+    Ok(reply?)
+}
+
 // The whole answer to the bytes that arrived, at the front of the text, and its length.
 fn answer(text: &mut [u8], bytes: &[u8]) -> Result<usize, Refusal>
     ensures { told result text.new ≡ filled (answer_text bytes.now) text.old }
@@ -66,7 +76,7 @@ fn answer(text: &mut [u8], bytes: &[u8]) -> Result<usize, Refusal>
     let mut image = [0u16; language::MOST_IMAGE_WORDS];
     let reply = translate(&mut image, bytes);
     let count = counted(reply);
-    listing::show(text, reply, &image[..count])
+    listing::show(text, numbered(reply), &image[..count])
 }
 
 // Reads a file to its end, or until the buffer is full; how many bytes arrived.

@@ -14,14 +14,15 @@ use borrow.Author.Tests.{ltb-true, ltb-false}
 use Rattle.std.specs.Prelude.{Result, Ok, Err}
 use Rattle.io.specs.Counts.{IsPrefixLen}
 use Rattle.io.specs.Digits.{last_digits, IsDigitCount}
-use Rattle.language.specs.Faults.{number_of}
 use Rattle.language.specs.Read.{no_place}
-use Rattle.language.specs.Calls.{Outcome, reply_of, told, filled}
+use Rattle.language.specs.Calls.{Outcome, told, filled}
 use Rattle.language.specs.declared.Fault.TheVariants.{NoRoom}
 use Rattle.language.specs.declared.Refusal.{Refusal}
 use Rattle.language.proofs.Stores.{filled_short, filled_whole}
 use Rattle.output.specs.Stored.{Room, Put}
 use Rattle.output.proofs.Stored.{put_none, put_then, room_left, put_as, take_more}
+use Rattle.listing.specs.Printed.{printed}
+use Rattle.listing.specs.declared.Numbered.{Numbered}
 use Rattle.listing.specs.Text.{space, newline, end_of, word_text, listed, enough, places_of, decimal_text, number_text, ok_text, no_text, line, reply_text}
 
 -- the words so far, and one more
@@ -137,12 +138,12 @@ module _ (n : ℕ) (ws out : List ℕ) {ds : List ℕ} (x : ds ≡ decimal_text 
       filled_whole (line (ok_text n) ++ listed (length ws) 0 ws) out (omega (arith, l, h, image_length)) (sym image_length) w.holds
 
 -- the whole answer, by the reply
-pub refusal_shown : {a : Result ℕ Refusal} {q : Refusal} {x : Outcome ℕ} (ws out : List ℕ)
-    → x ≡ filled (line (no_text (number_of q.fault) ++ number_text q.place)) out → a ≡ Err q → x ≡ filled (reply_text (reply_of a) ws) out
-unfolding reply_text reply_of
+pub refusal_shown : {a : Result ℕ Numbered} {q : Numbered} {x : Outcome ℕ} (ws out : List ℕ)
+    → x ≡ filled (line (no_text q.number ++ number_text q.place)) out → a ≡ Err q → x ≡ filled (reply_text (printed a) ws) out
+unfolding reply_text
 refusal_shown ws out k h = rw h k
 
-pub image_shown : {a : Result ℕ Refusal} {n : ℕ} {x : Outcome ℕ} (ws out : List ℕ) → x ≡ filled (line (ok_text n) ++ listed (length ws) 0 ws) out → a ≡ Ok n
-    → x ≡ filled (reply_text (reply_of a) ws) out
-unfolding reply_text reply_of
+pub image_shown : {a : Result ℕ Numbered} {n : ℕ} {x : Outcome ℕ} (ws out : List ℕ) → x ≡ filled (line (ok_text n) ++ listed (length ws) 0 ws) out → a ≡ Ok n
+    → x ≡ filled (reply_text (printed a) ws) out
+unfolding reply_text
 image_shown ws out k h = rw h k

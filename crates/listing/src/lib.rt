@@ -4,8 +4,9 @@
 
 ghost use Rattle.std.specs.Prelude.{◌≡◌, ◌+◌, ◌*◌, ◌≤◌, ◌<◌, ◌∷◌, ◌++◌, length};
 ghost use Rattle.language.specs.Faults.{number_of};
-ghost use Rattle.language.specs.Calls.{reply_of, told, filled};
+ghost use Rattle.language.specs.Calls.{told, filled};
 ghost use Rattle.output.specs.Stored.{HasRoom, Writes};
+ghost use Rattle.listing.specs.Printed.{printed};
 ghost use Rattle.listing.specs.Text.{space, hex_digit, end_of, word_text, listed, decimal_text, number_text, ok_text, no_text, line, reply_text};
 
 use language::{Fault, Refusal};
@@ -97,13 +98,31 @@ fn put_number(out: &mut Output<'_, u8>, digits: &[u8])
     out.put_all(digits);
 }
 
+// A refusal as it is printed: any number, and its place.
+#[derive(Clone, Copy, PartialEq, Eq)]
+pub struct Numbered {
+    pub number: u8,
+    pub place: usize,
+}
+
+impl From<Refusal> for Numbered {
+    ghost from_gives = { λ refusal numbered. numbered ≡ record { number = number_of refusal.fault; place = refusal.place } };
+
+    fn from(refusal: Refusal) -> Numbered {
+        Numbered {
+            number: refusal.fault.number(),
+            place: refusal.place,
+        }
+    }
+}
+
 // A refusal's number and its place.
 #[tactic(auto, using(crate::proofs::Ways::refusal_short))]
-fn show_refusal(out: &mut [u8], refusal: Refusal) -> Result<usize, Refusal>
-    ensures { told result out.new ≡ filled (line (no_text (number_of refusal.fault) ++ number_text refusal.place)) out.old }
+fn show_refusal(out: &mut [u8], refusal: Numbered) -> Result<usize, Refusal>
+    ensures { told result out.new ≡ filled (line (no_text refusal.number ++ number_text refusal.place)) out.old }
 {
     let (mut number_buffer, mut place_buffer) = ([0; MOST_DIGITS], [0; MOST_DIGITS]);
-    let number = digits(&mut number_buffer, refusal.fault.number() as u64);
+    let number = digits(&mut number_buffer, refusal.number as u64);
     let place = digits(&mut place_buffer, refusal.place as u64);
     let size = REPLY_BYTES + 1 + number.len() + 1 + place.len() + 1;
     if out.len() < size {
@@ -141,8 +160,12 @@ fn show_image(out: &mut [u8], n: usize, words: &[u16]) -> Result<usize, Refusal>
 
 // The bench program's whole answer, at the front of the output: a line with the reply, and on success the image's words.
 #[tactic(auto, using(crate::proofs::Ways::refusal_shown, crate::proofs::Ways::image_shown))]
-pub fn show(out: &mut [u8], answer: Result<usize, Refusal>, words: &[u16]) -> Result<usize, Refusal>
-    ensures { told result out.new ≡ filled (reply_text (reply_of answer) words.now) out.old }
+pub fn show(
+    out: &mut [u8],
+    answer: Result<usize, Numbered>,
+    words: &[u16],
+) -> Result<usize, Refusal>
+    ensures { told result out.new ≡ filled (reply_text (printed answer) words.now) out.old }
 {
     match answer {
         Ok(n) => show_image(out, n, words),

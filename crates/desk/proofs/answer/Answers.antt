@@ -9,4 +9,4 @@ pub slice_bounds-show-end : goal.slice_bounds-show-end
 slice_bounds-show-end c = taken _ _ (a_inside c.counted-count.ensures c.translate-reply.ensures)
 
 pub returns : goal.returns
-returns c = a_shown _ _ _ c.counted-count.ensures c.translate-reply.ensures c.show.ensures
+returns c = a_shown _ _ _ c.counted-count.ensures c.translate-reply.ensures c.numbered.ensures c.show.ensures

@@ -13,6 +13,6 @@ put-requires c = behind_three c.put_all.ensures.put c.put_number.ensures.put 1 c
 pub returns : goal.returns
 returns c = grind (
   arith,
-  refusal_whole c.number.result c.args.refusal.place c.args.out.now c.digits-number.ensures.spelled c.digits-place.ensures.spelled (omega arith)
+  refusal_whole c.args.refusal.number c.args.refusal.place c.args.out.now c.digits-number.ensures.spelled c.digits-place.ensures.spelled (omega arith)
       (put_then (put_then (put_then c.put_all.ensures.put c.put_number.ensures.put) c.put_number-2.ensures.put) c.put.ensures.put),
 )
