@@ -104,6 +104,24 @@ pub fn link_at(records: &[u32], base: usize, field: usize) -> usize
     low + high * LINK_END
 }
 
+// The value that is bound to a variable, where the bindings start at `last`.
+pub fn find(records: &[u32], last: usize, index: usize) -> usize
+    ensures { result ≡ found_from records.now last index }
+{
+    let mut binding = last;
+    for _ in 0..index {
+        binding = link_at(records, binding, BEFORE);
+    }
+    link_at(records, binding, BOUND)
+}
+
+// How many words are left for records.
+pub fn left(records: &[u32], free: usize) -> usize
+    ensures { result ≡ length records.now - free }
+{
+    records.len().saturating_sub(free)
+}
+
 // The first word of a reference.
 pub fn low(link: usize) -> u32
     ensures { result ≡ low link }
@@ -156,18 +174,14 @@ impl<'a> Records<'a> {
     pub fn find(&self, last: usize, index: usize) -> usize
         ensures { result ≡ found_from self.now.words.now last index }
     {
-        let mut binding = last;
-        for _ in 0..index {
-            binding = link_at(self.words, binding, BEFORE);
-        }
-        link_at(self.words, binding, BOUND)
+        find(self.words, last, index)
     }
 
     // How many words are left for records.
     pub fn left(&self) -> usize
         ensures { result ≡ length self.now.words.now - self.now.free }
     {
-        self.words.len().saturating_sub(self.free)
+        left(self.words, self.free)
     }
 
     // Takes the first free record, which is left.

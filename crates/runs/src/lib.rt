@@ -105,12 +105,13 @@ pub fn put_calling(out: &mut Output<'_, u16>, n: u8)
     ensures put { Writes (0x0201 ∷ words images (calling n)) out.old out.new }
 {
     let (called, first) = (Continuation(n), Continuation(n + 1));
-    out.put_all(&[
+    let end = [
         ADDED_FUNCTION,
         CALL + n as u16 + 1,
         called.head(),
         first.head(),
-    ]);
+    ];
+    out.put_all(&end);
     put_down(out, n);
 }
 

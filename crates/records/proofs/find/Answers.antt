@@ -1,7 +1,7 @@
--- `records::Records::find` meets its contract: the binding looked for is kept, with fewer bindings before it.
+-- `records::find` meets its contract: the binding looked for is kept, with fewer bindings before it.
 use Rattle.std.proofs.Common.{arith, ◌+◌, ◌-◌}
 use Rattle.records.proofs.Ways.{l_found, l_next}
-use Rattle.records.proofs.Records.find.Goals as goal
+use Rattle.records.proofs.find.Goals as goal
 
 pub loop-preserved : goal.loop-preserved
 loop-preserved c = l_next _ _ (c.args.index - c.loop.counter) (c.args.index - (c.loop.counter + 1)) (omega arith) c.link_at-binding.ensures c.loop.invariant
