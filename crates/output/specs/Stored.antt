@@ -12,9 +12,11 @@ pub record Put {A : Type 0} (ws : List A) (o : List A) (p : ℕ) (o' : List A) (
   pub next : end ≡ p + length ws
   pub holds : o' ≡ sets o p ws
 
--- the same of an output: room for n words from the place of its next word on, and words written there
+-- room for n words in an output, from the place of its next word on
 abbrev pub HasRoom : {A : Type 0} → Output A → ℕ → Type 0
 HasRoom o n = Room o.words.now o.pos n
 
-abbrev pub Writes : {A : Type 0} → List A → Output A → Output A → Type 0
-Writes ws o o' = Put ws o.words.now o.pos o'.words.now o'.pos
+-- an output after words were written: it is over the same lent memory, which holds them from its place on
+pub record Writes {A : Type 0} (ws : List A) (o o' : Output A) : Type 0 where
+  pub same : o'.words.ghost_name ≡ o.words.ghost_name
+  pub put : Put ws o.words.now o.pos o'.words.now o'.pos

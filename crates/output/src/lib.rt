@@ -15,8 +15,7 @@ pub struct Output<'a, T> {
 impl<'a, T: Copy> Output<'a, T> {
     pub fn put(&mut self, word: T)
         requires { HasRoom self.old 1 }
-        ensures same_reference { self.new.words.ghost_name ≡ self.old.words.ghost_name }
-        ensures put { Writes (word ∷ []) self.old self.new }
+        ensures { Writes (word ∷ []) self.old self.new }
     {
         self.words[self.pos] = word;
         self.pos += 1;
@@ -25,8 +24,7 @@ impl<'a, T: Copy> Output<'a, T> {
     // So many words, one after the other.
     pub fn put_all(&mut self, words: &[T])
         requires { HasRoom self.old (length words.now) }
-        ensures same_reference { self.new.words.ghost_name ≡ self.old.words.ghost_name }
-        ensures put { Writes words.now self.old self.new }
+        ensures { Writes words.now self.old self.new }
     {
         let end = self.pos + words.len();
         self.words[self.pos..end].copy_from_slice(words);
