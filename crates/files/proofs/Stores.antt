@@ -8,7 +8,8 @@ use lib.ListN.{length, length-append, get_or, take, drop, set, drop_of_length-le
 use lib.Seq.{sets}
 use Rattle.std.proofs.lemmas.List.{length-take-le}
 use Rattle.language.proofs.Stores.{store_rest, at_front}
-use Rattle.output.specs.Stored.{Room, Put}
+use Rattle.output.specs.Stored.{Room, Put, HasRoom, Writes}
+use Rattle.output.specs.declared.Output.{Output}
 use Rattle.output.proofs.Stored.{put_none, put_then, room_left, put_as, take_more}
 use Rattle.files.specs.Files.{mark_l, mark_r, third, header_bytes, header, bytes_of, word_at, words_at}
 use Rattle.files.specs.declared.Form.{Form}
@@ -43,19 +44,22 @@ unfolding bytes_of
 bytes_length [] = refl
 bytes_length (w ∷ ws) = omega (arith, bytes_length ws)
 
-pub no_bytes : (ws : List ℕ) (p : ℕ) (o : List ℕ) → Put (bytes_of (take 0 ws)) o p o p
+pub no_bytes : (ws : List ℕ) (o : Output ℕ) → Writes (bytes_of (take 0 ws)) o o
 unfolding bytes_of
-no_bytes ws p o = put_none o p
+no_bytes ws o = record { same = refl; put = put_none _ _ }
 
-pub next_bytes : (ws : List ℕ) (i : ℕ) {o o' o'' : List ℕ} {p k end : ℕ} → Put (bytes_of (take i ws)) o p o' k → i < length ws
-    → Put (bytes_of (get_or ws i 0 ∷ [])) o' k o'' end → Put (bytes_of (take (i + 1) ws)) o p o'' end
-next_bytes ws i f h g = put_as (ap bytes_of (take_more 0 ws i h) ∙ bytes_more (take i ws) (get_or ws i 0)) (put_then f g)
+pub next_bytes : (ws : List ℕ) (i : ℕ) {o o' o'' : Output ℕ} → Writes (bytes_of (take i ws)) o o' → i < length ws
+    → Writes (bytes_of (get_or ws i 0 ∷ [])) o' o'' → Writes (bytes_of (take (i + 1) ws)) o o''
+next_bytes ws i f h g = record {
+  same = g.same ∙ f.same;
+  put = put_as (ap bytes_of (take_more 0 ws i h) ∙ bytes_more (take i ws) (get_or ws i 0)) (put_then f.put g.put);
+}
 
 -- and the room for the next of them
-pub bytes_room : (ws : List ℕ) (i : ℕ) {o o' : List ℕ} {p k : ℕ} → Room o p (2 * length ws) → Put (bytes_of (take i ws)) o p o' k → i < length ws → Room o' k 2
+pub bytes_room : (ws : List ℕ) (i : ℕ) {o o' : Output ℕ} → HasRoom o (2 * length ws) → Writes (bytes_of (take i ws)) o o' → i < length ws → HasRoom o' 2
 bytes_room ws i r f h =
     let l : length (take i ws) ≡ i = length-take-le i ws (omega arith) in
-    room_left 2 f (omega (arith, r.fits, bytes_length (take i ws)))
+    room_left 2 f.put (omega (arith, r.fits, bytes_length (take i ws)))
 
 -- In the loop that takes words: what is still to be stored, stored from where the loop is, gives what is to be stored in all.
 -- The words of a file, one by one, in a run that is as long as they are many.

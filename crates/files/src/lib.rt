@@ -62,16 +62,14 @@ impl Form {
 // A word's two bytes, low byte first.
 fn put_word(out: &mut Output<'_, u8>, w: u16)
     requires { HasRoom out.old 2 }
-    ensures same_reference { out.new.words.ghost_name ≡ out.old.words.ghost_name }
-    ensures put { Writes (bytes_of (w ∷ [])) out.old out.new }
+    ensures { Writes (bytes_of (w ∷ [])) out.old out.new }
 {
     out.put_all(&w.to_le_bytes());
 }
 
 fn put_header(out: &mut Output<'_, u8>, form: Form, version: u16, count: u16)
     requires { HasRoom out.old header_bytes }
-    ensures same_reference { out.new.words.ghost_name ≡ out.old.words.ghost_name }
-    ensures put { Writes (header form version count) out.old out.new }
+    ensures { Writes (header form version count) out.old out.new }
 {
     out.put_all(&form.mark());
     put_word(out, version);
@@ -80,8 +78,7 @@ fn put_header(out: &mut Output<'_, u8>, form: Form, version: u16, count: u16)
 
 fn put_words(out: &mut Output<'_, u8>, words: &[u16])
     requires { HasRoom out.old (2 * length words.now) }
-    ensures same_reference { out.new.words.ghost_name ≡ out.old.words.ghost_name }
-    ensures put { Writes (bytes_of words.now) out.old out.new }
+    ensures { Writes (bytes_of words.now) out.old out.new }
 {
     for word in words {
         put_word(out, *word);

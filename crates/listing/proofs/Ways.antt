@@ -19,7 +19,8 @@ use Rattle.language.specs.Calls.{Outcome, told, filled}
 use Rattle.language.specs.declared.Fault.TheVariants.{NoRoom}
 use Rattle.language.specs.declared.Refusal.{Refusal}
 use Rattle.language.proofs.Stores.{filled_short, filled_whole}
-use Rattle.output.specs.Stored.{Room, Put}
+use Rattle.output.specs.Stored.{Room, Put, HasRoom, Writes}
+use Rattle.output.specs.declared.Output.{Output}
 use Rattle.output.proofs.Stored.{put_none, put_then, room_left, put_as, take_more}
 use Rattle.listing.specs.Printed.{printed}
 use Rattle.listing.specs.declared.Numbered.{Numbered}
@@ -33,15 +34,18 @@ listed_more n i (v ∷ ws) w =
     let e : i + 1 + length ws ≡ i + suc (length ws) = omega arith in
     ap (λ (l : List ℕ). word_text v (end_of n i) ++ l) (listed_more n (i + 1) ws w ∙ ap (λ (k : ℕ). listed n (i + 1) ws ++ word_text w (end_of n k)) e)
 
-pub next_word : (ws : List ℕ) (n i : ℕ) {o o' o'' : List ℕ} {p k end e : ℕ} → Put (listed n 0 (take i ws)) o p o' k → i < length ws → e ≡ end_of n i
-    → Put (word_text (get_or ws i 0) e) o' k o'' end → Put (listed n 0 (take (i + 1) ws)) o p o'' end
+pub next_word : (ws : List ℕ) (n i : ℕ) {o o' o'' : Output ℕ} {e : ℕ} → Writes (listed n 0 (take i ws)) o o' → i < length ws → e ≡ end_of n i
+    → Writes (word_text (get_or ws i 0) e) o' o'' → Writes (listed n 0 (take (i + 1) ws)) o o''
 next_word ws n i f h q g =
     let l : length (take i ws) ≡ i = length-take-le i ws (omega arith) in
-    put_as (ap (listed n 0) (take_more 0 ws i h) ∙ listed_more n 0 (take i ws) (get_or ws i 0) ∙ rw (l, zero-add, ← q) refl) (put_then f g)
+    record {
+      same = g.same ∙ f.same;
+      put = put_as (ap (listed n 0) (take_more 0 ws i h) ∙ listed_more n 0 (take i ws) (get_or ws i 0) ∙ rw (l, zero-add, ← q) refl) (put_then f.put g.put);
+    }
 
-pub no_word : (ws : List ℕ) (n p : ℕ) (o : List ℕ) → Put (listed n 0 (take 0 ws)) o p o p
+pub no_word : (ws : List ℕ) (n : ℕ) (o : Output ℕ) → Writes (listed n 0 (take 0 ws)) o o
 unfolding listed
-no_word ws n p o = put_none o p
+no_word ws n o = record { same = refl; put = put_none _ _ }
 
 listed_length : (n i : ℕ) (ws : List ℕ) → length (listed n i ws) ≡ 5 * length ws
 unfolding listed
@@ -49,10 +53,10 @@ listed_length n i [] = refl
 listed_length n i (w ∷ ws) = omega (arith, listed_length n (i + 1) ws)
 
 -- and the room for the next of them
-pub word_room : (ws : List ℕ) (n i : ℕ) {o o' : List ℕ} {p k : ℕ} → Room o p (5 * length ws) → Put (listed n 0 (take i ws)) o p o' k → i < length ws → Room o' k 5
+pub word_room : (ws : List ℕ) (n i : ℕ) {o o' : Output ℕ} → HasRoom o (5 * length ws) → Writes (listed n 0 (take i ws)) o o' → i < length ws → HasRoom o' 5
 word_room ws n i r f h =
     let l : length (take i ws) ≡ i = length-take-le i ws (omega arith) in
-    room_left 5 f (omega (arith, r.fits, listed_length n 0 (take i ws)))
+    room_left 5 f.put (omega (arith, r.fits, listed_length n 0 (take i ws)))
 
 -- a number's digits: the definition's are the fewest that hold it, as the libraries' are, and no two numbers of digits are the fewest
 one_more : (n k : ℕ) (b : Bool) → ltb (suc n) (10 ^ k) ≡ b → IsDigitCount 10 1 n k → IsDigitCount 10 1 (suc n) (cond b k (suc k))

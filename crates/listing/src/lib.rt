@@ -54,8 +54,7 @@ fn end_of(n: usize, i: usize) -> u8
 // A word's four digits, and what stands after them.
 pub fn put_word(out: &mut Output<'_, u8>, w: u16, end: u8)
     requires { HasRoom out.old 5 }
-    ensures same_reference { out.new.words.ghost_name ≡ out.old.words.ghost_name }
-    ensures put { Writes (word_text w end) out.old out.new }
+    ensures { Writes (word_text w end) out.old out.new }
 {
     out.put_all(&[
         hex_digit(w / 4096),
@@ -69,8 +68,7 @@ pub fn put_word(out: &mut Output<'_, u8>, w: u16, end: u8)
 // The words, eight to a line.
 pub fn put_words(out: &mut Output<'_, u8>, words: &[u16])
     requires { HasRoom out.old (5 * length words.now) }
-    ensures same_reference { out.new.words.ghost_name ≡ out.old.words.ghost_name }
-    ensures put { Writes (listed (length words.now) 0 words.now) out.old out.new }
+    ensures { Writes (listed (length words.now) 0 words.now) out.old out.new }
 {
     let n = words.len();
     for (i, word) in words.iter().enumerate() {
@@ -91,8 +89,7 @@ fn digits(buffer: &mut [u8; MOST_DIGITS], n: u64) -> &[u8]
 // A space and a number's digits.
 fn put_number(out: &mut Output<'_, u8>, digits: &[u8])
     requires { HasRoom out.old (1 + length digits.now) }
-    ensures same_reference { out.new.words.ghost_name ≡ out.old.words.ghost_name }
-    ensures put { Writes (space ∷ digits.now) out.old out.new }
+    ensures { Writes (space ∷ digits.now) out.old out.new }
 {
     out.put(SPACE);
     out.put_all(digits);

@@ -2,5 +2,5 @@
 use Rattle.files.proofs.Stores.{word_put}
 use Rattle.files.proofs.put_word.Goals as goal
 
-pub returns-clause-put : goal.returns-clause-put
-returns-clause-put c = word_put _ c.ranges.w.fits c.to_le_bytes.ensures c.put_all.ensures.put
+pub returns : goal.returns
+returns c = record { same = c.put_all.ensures.same; put = word_put _ c.ranges.w.fits c.to_le_bytes.ensures c.put_all.ensures.put }
