@@ -27,6 +27,7 @@ pub data BuiltOr (m m' : List ℕ) (n n' t : ℕ) (vs : List ℕ) : Option ℕ �
   is_built : {r : ℕ} → r ≡ n → n' ≡ n + record_words → Built m m' n t vs → BuiltOr m m' n n' t vs (Some r)
   not_built : length m < n + record_words → m' ≡ m → n' ≡ n → BuiltOr m m' n n' t vs None
 
--- the same of a run's records
-abbrev pub Builds : Records → Records → ℕ → List ℕ → Option ℕ → Type 0
-Builds o o' t vs r = BuiltOr o.words.now o'.words.now o.free o'.free t vs r
+-- a run's records after that: they are over the same lent memory
+pub record Builds (o o' : Records) (t : ℕ) (vs : List ℕ) (r : Option ℕ) : Type 0 where
+  pub same : o'.words.ghost_name ≡ o.words.ghost_name
+  pub built : BuiltOr o.words.now o'.words.now o.free o'.free t vs r

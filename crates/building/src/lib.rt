@@ -98,8 +98,7 @@ fn summed(records: &[u32], values: &[usize]) -> Told
 #[tactic(auto, using(crate::proofs::Ways::p_room))]
 fn put_arguments(out: &mut Output<'_, u32>, values: &[usize])
     requires { HasRoom out.old (2 * length values.now) }
-    ensures same_reference { out.new.words.ghost_name ≡ out.old.words.ghost_name }
-    ensures put { Writes (links values.now) out.old out.new }
+    ensures { Writes (links values.now) out.old out.new }
 {
     for value in values {
         out.put_all(&[records::low(*value), records::high(*value)]);
@@ -132,8 +131,7 @@ fn put_constructor(records: &mut [u32], base: usize, tag: u32, values: &[usize])
 #[tactic(auto, using(crate::specs::Built::is_built, crate::specs::Built::not_built))]
 pub fn keep_constructor(records: &mut Records<'_>, tag: u32, values: &[usize]) -> Option<usize>
     requires { (tag ≤ most_byte) × (length values.now ≤ most_arguments) }
-    ensures same_reference { records.new.words.ghost_name ≡ records.old.words.ghost_name }
-    ensures built { Builds records.old records.new tag values.now result }
+    ensures { Builds records.old records.new tag values.now result }
 {
     let base = records.try_take()?;
     put_constructor(records.words, base, tag, values);

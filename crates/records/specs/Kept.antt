@@ -14,9 +14,17 @@ pub data Kept (ws m m' : List ℕ) (n n' : ℕ) : Option ℕ → Type 0 where
   kept : {r e : ℕ} → r ≡ n → Room m n record_words → Put ws m n m' e → n' ≡ n + record_words → Kept ws m m' n n' (Some r)
   not_kept : length m < n + record_words → m' ≡ m → n' ≡ n → Kept ws m m' n n' None
 
--- the same of a run's records
+-- a record is left for a run
 abbrev pub HasRecord : Records → Type 0
 HasRecord o = Room o.words.now o.free record_words
 
-abbrev pub Keeps : List ℕ → Records → Records → Option ℕ → Type 0
-Keeps ws o o' r = Kept ws o.words.now o'.words.now o.free o'.free r
+-- a run's records after one was taken, if one was left: they are over the same lent memory, whose words are as before
+pub record Takes (o o' : Records) (r : Option ℕ) : Type 0 where
+  pub same : o'.words.ghost_name ≡ o.words.ghost_name
+  pub words : o'.words.now ≡ o.words.now
+  pub next : Next (length o.words.now) o.free o'.free r
+
+-- and after words were written into it: they are over the same lent memory, which holds the words there
+pub record Keeps (ws : List ℕ) (o o' : Records) (r : Option ℕ) : Type 0 where
+  pub same : o'.words.ghost_name ≡ o.words.ghost_name
+  pub kept : Kept ws o.words.now o'.words.now o.free o'.free r

@@ -7,7 +7,7 @@ ghost use Rattle.output.specs.Stored.{Room, Put};
 ghost use Rattle.records.specs.Links.{record_words, low, high, link_at, found_from};
 ghost use Rattle.records.specs.Memory.{a_function, a_number};
 ghost use Rattle.records.specs.Kinds.{word_of, kind_of};
-ghost use Rattle.records.specs.Kept.{HasRecord, Next, Keeps};
+ghost use Rattle.records.specs.Kept.{HasRecord, Takes, Keeps};
 
 use output::Output;
 
@@ -187,9 +187,7 @@ impl<'a> Records<'a> {
     // Takes the first free record, which is left.
     fn take(&mut self) -> usize
         requires { HasRecord self.old }
-        ensures same_reference { self.new.words.ghost_name ≡ self.old.words.ghost_name }
-        ensures same { self.new.words.now ≡ self.old.words.now }
-        ensures next { Next (length self.old.words.now) self.old.free self.new.free (Some result) }
+        ensures { Takes self.old self.new (Some result) }
     {
         let base = self.free;
         self.free = base + RECORD_WORDS;
@@ -198,9 +196,7 @@ impl<'a> Records<'a> {
 
     // The same, if one is left.
     pub fn try_take(&mut self) -> Option<usize>
-        ensures same_reference { self.new.words.ghost_name ≡ self.old.words.ghost_name }
-        ensures same { self.new.words.now ≡ self.old.words.now }
-        ensures next { Next (length self.old.words.now) self.old.free self.new.free result }
+        ensures { Takes self.old self.new result }
     {
         if self.left() < RECORD_WORDS {
             return None;
@@ -212,8 +208,7 @@ impl<'a> Records<'a> {
     #[tactic(auto, using(crate::specs::Kept::kept, crate::specs::Kept::not_kept))]
     fn keep(&mut self, words: &[u32]) -> Option<usize>
         requires { length words.now ≤ record_words }
-        ensures same_reference { self.new.words.ghost_name ≡ self.old.words.ghost_name }
-        ensures kept { Keeps words.now self.old self.new result }
+        ensures { Keeps words.now self.old self.new result }
     {
         let base = self.try_take()?;
         write(self.words, base, words);
@@ -224,8 +219,7 @@ impl<'a> Records<'a> {
     #[tactic(auto, using(crate::specs::Kept::kept))]
     pub fn put_binding(&mut self, value: usize, before: usize) -> usize
         requires { HasRecord self.old }
-        ensures same_reference { self.new.words.ghost_name ≡ self.old.words.ghost_name }
-        ensures kept { Keeps (low value ∷ high value ∷ low before ∷ high before ∷ []) self.old self.new (Some result) }
+        ensures { Keeps (low value ∷ high value ∷ low before ∷ high before ∷ []) self.old self.new (Some result) }
     {
         let base = self.take();
         write(self.words, base, &binding(value, before));
@@ -234,8 +228,7 @@ impl<'a> Records<'a> {
 
     // A binding, if a record is left.
     pub fn keep_binding(&mut self, value: usize, before: usize) -> Option<usize>
-        ensures same_reference { self.new.words.ghost_name ≡ self.old.words.ghost_name }
-        ensures kept { Keeps (low value ∷ high value ∷ low before ∷ high before ∷ []) self.old self.new result }
+        ensures { Keeps (low value ∷ high value ∷ low before ∷ high before ∷ []) self.old self.new result }
     {
         self.keep(&binding(value, before))
     }
@@ -247,8 +240,7 @@ impl<'a> Records<'a> {
         continuations: usize,
         sources: usize,
     ) -> Option<usize>
-        ensures same_reference { self.new.words.ghost_name ≡ self.old.words.ghost_name }
-        ensures kept { Keeps (a_function ∷ place ∷ low continuations ∷ high continuations ∷ low sources ∷ high sources ∷ []) self.old self.new result }
+        ensures { Keeps (a_function ∷ place ∷ low continuations ∷ high continuations ∷ low sources ∷ high sources ∷ []) self.old self.new result }
     {
         self.keep(&[
             Kind::Function.word(),
@@ -262,8 +254,7 @@ impl<'a> Records<'a> {
 
     // A number.
     pub fn keep_number(&mut self, number: u32) -> Option<usize>
-        ensures same_reference { self.new.words.ghost_name ≡ self.old.words.ghost_name }
-        ensures kept { Keeps (a_number ∷ number ∷ []) self.old self.new result }
+        ensures { Keeps (a_number ∷ number ∷ []) self.old self.new result }
     {
         self.keep(&[Kind::Number.word(), number])
     }

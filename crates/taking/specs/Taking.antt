@@ -54,12 +54,14 @@ pub record TookAllSays (s m m' vs vs' : List ℕ) (n n' at : ℕ) (b : Bound) (r
   pub kept : length vs' ≡ length vs
   pub says : (q : Takingᵗ s m n at (length vs) b) → TookAll s m m' n n' (takesᵗ q.ts) vs' (values q.ts q.bounds.ks q.bounds.xs) r
 
--- the same of a run's records, and of the image and what is bound
-abbrev pub Took : Taker → ℕ → Records → Records → Option ℕ → Type 0
-Took t at o o' r = TookSays t.image.now o.words.now o'.words.now o.free o'.free at t.bound r
+-- the same of a run's records, and of the image and what is bound: the records are over the same lent memory
+pub record Took (t : Taker) (at : ℕ) (o o' : Records) (r : Option ℕ) : Type 0 where
+  pub same : o'.words.ghost_name ≡ o.words.ghost_name
+  pub took : TookSays t.image.now o.words.now o'.words.now o.free o'.free at t.bound r
 
-abbrev pub TookEach : Taker → ℕ → Records → Records → List ℕ → List ℕ → Option (Unit {0}) → Type 0
-TookEach t at o o' vs vs' r = TookAllSays t.image.now o.words.now o'.words.now vs vs' o.free o'.free at t.bound r
+pub record TookEach (t : Taker) (at : ℕ) (o o' : Records) (vs vs' : List ℕ) (r : Option (Unit {0})) : Type 0 where
+  pub same : o'.words.ghost_name ≡ o.words.ghost_name
+  pub took : TookAllSays t.image.now o.words.now o'.words.now vs vs' o.free o'.free at t.bound r
 
 -- the atom that the head word w says
 abbrev pub Heads : ℕ → Atom → Type 0

@@ -100,8 +100,7 @@ impl<'a> Taker<'a> {
     #[cycle(taking)]
     pub fn take(&self, records: &mut Records<'_>, at: usize) -> Option<usize>
         requires { Stands self.now.image.now at }
-        ensures same_reference { records.new.words.ghost_name ≡ records.old.words.ghost_name }
-        ensures took { Took self.now at records.old records.new result }
+        ensures { Took self.now at records.old records.new result }
     {
         let Bound {
             continuations,
@@ -120,8 +119,7 @@ impl<'a> Taker<'a> {
     #[cycle(taking)]
     fn build(&self, records: &mut Records<'_>, at: usize, tag: u32) -> Option<usize>
         requires { Constructed self.now.image.now at × (tag ≡ get_or self.now.image.now at 0 % 256) }
-        ensures same_reference { records.new.words.ghost_name ≡ records.old.words.ghost_name }
-        ensures took { Took self.now at records.old records.new result }
+        ensures { Took self.now at records.old records.new result }
     {
         let count = count_at(self.image, at);
         let mut values = [0usize; MOST_VALUES];
@@ -134,8 +132,7 @@ impl<'a> Taker<'a> {
     #[cycle(taking)]
     pub fn take_all(&self, records: &mut Records<'_>, values: &mut [usize], at: usize) -> Option<()>
         requires { Standᵗ self.now.image.now at (length values.old) }
-        ensures same_reference { records.new.words.ghost_name ≡ records.old.words.ghost_name }
-        ensures took { TookEach self.now at records.old records.new values.old values.new result }
+        ensures { TookEach self.now at records.old records.new values.old values.new result }
     {
         let count = values.len();
         let mut place = at;
