@@ -1,7 +1,7 @@
 -- The variables that end a chain, written one by one; and the ends of chains, in the runs in which they are written.
 -- Assumes nothing.
 use Prim.Native.Nat.{ℕ, zero, suc, ◌+◌, ◌-◌, ◌<◌}
-use mathlib.Core.Path.{◌≡◌, refl, sym, ap, ◌∙◌}
+use mathlib.Core.Path.{◌≡◌, refl, ap, ◌∙◌}
 use mathlib.Core.List.{List, [], ◌∷◌, ◌++◌, append-nil}
 use native.Mathlib.Omega.{arith}
 use native.Mathlib.Numerals.{sub-one}
@@ -32,16 +32,15 @@ pub record Downward (n i : ℕ) (o o' : Output ℕ) : Type 0 where
   pub rest : (w : List ℕ) (e : ℕ) → Put (wordsᵗ images (downto i)) o'.words.now o'.pos w e → Put (wordsᵗ images (downto n)) o.words.now o.pos w e
 
 module _ {n i : ℕ} {o o' : Output ℕ} (d : Downward n i o o') where
-  pub down_next : {o'' : Output ℕ} {w : ℕ} → 0 < i → o''.words.ghost_name ≡ o'.words.ghost_name → w ≡ head 9 (i - 1) → Writes (w ∷ []) o' o''
-      → Downward n (i - 1) o o''
-  down_next {w = w} l g e f = record {
-    same = g ∙ d.same;
-    room = room_left (i - 1) f (omega (arith, l, d.room.fits));
-    rest = λ v k h. d.rest v k (put_as (downs_more i (omega arith)) (put_then (put_as (ap (λ (x : ℕ). x ∷ []) (sym e)) f) h));
+  pub down_next : {o'' : Output ℕ} → 0 < i → Writes (head 9 (i - 1) ∷ []) o' o'' → Downward n (i - 1) o o''
+  down_next l f = record {
+    same = f.same ∙ d.same;
+    room = room_left (i - 1) f.put (omega (arith, l, d.room.fits));
+    rest = λ v k h. d.rest v k (put_as (downs_more i (omega arith)) (put_then f.put h));
   }
 
   pub down_end : i ≡ 0 → Writes (wordsᵗ images (downto n)) o o'
-  down_end z = d.rest _ _ (put_as (downs_none i z) (put_none _ _))
+  down_end z = record { same = d.same; put = d.rest _ _ (put_as (downs_none i z) (put_none _ _)) }
 
 calling_words : (n : ℕ) → 0x0201 ∷ words images (calling n)
     ≡ (0x0201 ∷ (0x0400 + n + 1) ∷ head 9 n ∷ head 9 (n + 1) ∷ []) ++ wordsᵗ images (downto n)
@@ -57,21 +56,26 @@ unfolding words
 handing_words n t ws e = ap (λ (l : List ℕ). 0x0201 ∷ 0x0401 ∷ head 9 n ∷ l) (append-nil (words images t) ∙ e)
 
 -- One law for each way out of the writers of runs: what was written on the way, and what then was written in all.
-module _ {o : List ℕ} {p : ℕ} {o' : List ℕ} {i : ℕ} where
-  pub calling_put : (n : ℕ) {f g : ℕ} {o'' : List ℕ} {end : ℕ} → f ≡ head 9 n → g ≡ head 9 (n + 1)
-      → Put (0x0201 ∷ (0x0400 + n + 1) ∷ f ∷ g ∷ []) o p o' i → Put (wordsᵗ images (downto n)) o' i o'' end
-      → Put (0x0201 ∷ words images (calling n)) o p o'' end
-  calling_put n e k h r = put_as (calling_words n) (put_then {a = 0x0201 ∷ (0x0400 + n + 1) ∷ head 9 n ∷ head 9 (n + 1) ∷ []} (put_as (simp (e, k)) h) r)
+module _ {o o' : Output ℕ} where
+  pub calling_put : (n : ℕ) {f g : ℕ} {o'' : Output ℕ} → f ≡ head 9 n → g ≡ head 9 (n + 1) → Writes (0x0201 ∷ (0x0400 + n + 1) ∷ f ∷ g ∷ []) o o'
+      → Writes (wordsᵗ images (downto n)) o' o'' → Writes (0x0201 ∷ words images (calling n)) o o''
+  calling_put n e k h r = record {
+    same = r.same ∙ h.same;
+    put = put_as (calling_words n) (put_then {a = 0x0201 ∷ (0x0400 + n + 1) ∷ head 9 n ∷ head 9 (n + 1) ∷ []} (put_as (simp (e, k)) h.put) r.put);
+  }
 
   -- the end that hands k_n a term, whose words are ws and then k_(n-1) down to k_0: a constructor's end, and an operation's
-  pub making_put : (t n : ℕ) → Put ((0x0201 ∷ 0x0401 ∷ head 9 n ∷ []) ++ ((head 6 t ∷ n ∷ []) ++ wordsᵗ images (downto n))) o p o' i
-      → Put (0x0201 ∷ words images (making t n)) o p o' i
+  pub making_put : (t n : ℕ) → Writes ((0x0201 ∷ 0x0401 ∷ head 9 n ∷ []) ++ ((head 6 t ∷ n ∷ []) ++ wordsᵗ images (downto n))) o o'
+      → Writes (0x0201 ∷ words images (making t n)) o o'
   unfolding words
-  making_put t n = put_as (handing_words n (con t (downto n)) (head 6 t ∷ n ∷ []) (ap (λ (m : ℕ). head 6 t ∷ m ∷ wordsᵗ images (downto n)) (size_downto n)))
+  making_put t n h = record {
+    same = h.same;
+    put = put_as (handing_words n (con t (downto n)) (head 6 t ∷ n ∷ []) (ap (λ (m : ℕ). head 6 t ∷ m ∷ wordsᵗ images (downto n)) (size_downto n))) h.put;
+  }
 
-  pub working_put : (w n : ℕ) → Put ((0x0201 ∷ 0x0401 ∷ head 9 n ∷ []) ++ ((head 11 w ∷ []) ++ wordsᵗ images (downto n))) o p o' i
-      → Put (0x0201 ∷ words images (working w n)) o p o' i
+  pub working_put : (w n : ℕ) → Writes ((0x0201 ∷ 0x0401 ∷ head 9 n ∷ []) ++ ((head 11 w ∷ []) ++ wordsᵗ images (downto n))) o o'
+      → Writes (0x0201 ∷ words images (working w n)) o o'
   unfolding words
-  working_put w n = put_as (handing_words n (op w (downto n)) (head 11 w ∷ []) refl)
+  working_put w n h = record { same = h.same; put = put_as (handing_words n (op w (downto n)) (head 11 w ∷ []) refl) h.put }
 
 pub ruleset runs = (down_next, down_end, calling_put, making_put, working_put, rules)

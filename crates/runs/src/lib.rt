@@ -55,16 +55,14 @@ impl Continuation {
 
 pub fn put_source(out: &mut Output<'_, u16>, x: Source)
     requires { HasRoom out.old 1 }
-    ensures same_reference { out.new.words.ghost_name ≡ out.old.words.ghost_name }
-    ensures put { Writes (head 1 x.0 ∷ []) out.old out.new }
+    ensures { Writes (head 1 x.0 ∷ []) out.old out.new }
 {
     out.put(x.head());
 }
 
 pub fn put_continuation(out: &mut Output<'_, u16>, k: Continuation)
     requires { HasRoom out.old 1 }
-    ensures same_reference { out.new.words.ghost_name ≡ out.old.words.ghost_name }
-    ensures put { Writes (head 9 k.0 ∷ []) out.old out.new }
+    ensures { Writes (head 9 k.0 ∷ []) out.old out.new }
 {
     out.put(k.head());
 }
@@ -72,8 +70,7 @@ pub fn put_continuation(out: &mut Output<'_, u16>, k: Continuation)
 // An added function of a continuation alone, the head of its body, and a continuation variable.
 pub fn put_added(out: &mut Output<'_, u16>, w: u16, k: Continuation)
     requires { HasRoom out.old 3 }
-    ensures same_reference { out.new.words.ghost_name ≡ out.old.words.ghost_name }
-    ensures put { Writes (0x0201 ∷ w ∷ head 9 k.0 ∷ []) out.old out.new }
+    ensures { Writes (0x0201 ∷ w ∷ head 9 k.0 ∷ []) out.old out.new }
 {
     out.put_all(&[ADDED_FUNCTION, w, k.head()]);
 }
@@ -81,8 +78,7 @@ pub fn put_added(out: &mut Output<'_, u16>, w: u16, k: Continuation)
 // The added function that gives back what it is given.
 pub fn put_identity(out: &mut Output<'_, u16>)
     requires { HasRoom out.old 2 }
-    ensures same_reference { out.new.words.ghost_name ≡ out.old.words.ghost_name }
-    ensures put { Writes (0x0201 ∷ head 9 0 ∷ []) out.old out.new }
+    ensures { Writes (0x0201 ∷ head 9 0 ∷ []) out.old out.new }
 {
     out.put_all(&[ADDED_FUNCTION, Continuation(0).head()]);
 }
@@ -90,8 +86,7 @@ pub fn put_identity(out: &mut Output<'_, u16>)
 // k_(n-1) down to k_0.
 fn put_down(out: &mut Output<'_, u16>, n: u8)
     requires { HasRoom out.old n }
-    ensures same_reference { out.new.words.ghost_name ≡ out.old.words.ghost_name }
-    ensures put { Writes (wordsᵗ images (downto n)) out.old out.new }
+    ensures { Writes (wordsᵗ images (downto n)) out.old out.new }
 {
     for i in (0..n).rev() {
         put_continuation(out, Continuation(i));
@@ -101,8 +96,7 @@ fn put_down(out: &mut Output<'_, u16>, n: u8)
 // The end of the chain of a call with n arguments: k_n applied to k_(n+1), then k_(n-1) down to k_0.
 pub fn put_calling(out: &mut Output<'_, u16>, n: u8)
     requires { HasRoom out.old (n + 4) × (n < most_byte) }
-    ensures same_reference { out.new.words.ghost_name ≡ out.old.words.ghost_name }
-    ensures put { Writes (0x0201 ∷ words images (calling n)) out.old out.new }
+    ensures { Writes (0x0201 ∷ words images (calling n)) out.old out.new }
 {
     let (called, first) = (Continuation(n), Continuation(n + 1));
     let end = [
@@ -118,8 +112,7 @@ pub fn put_calling(out: &mut Output<'_, u16>, n: u8)
 // The end of the chain of n terms whose values a term takes, with these words and then k_(n-1) down to k_0: k_n applied to it.
 fn put_handing(out: &mut Output<'_, u16>, n: u8, words: &[u16])
     requires { HasRoom out.old (3 + length words.now + n) }
-    ensures same_reference { out.new.words.ghost_name ≡ out.old.words.ghost_name }
-    ensures put { Writes ((0x0201 ∷ 0x0401 ∷ head 9 n ∷ []) ++ (words.now ++ wordsᵗ images (downto n))) out.old out.new }
+    ensures { Writes ((0x0201 ∷ 0x0401 ∷ head 9 n ∷ []) ++ (words.now ++ wordsᵗ images (downto n))) out.old out.new }
 {
     put_added(out, CALL_OF_ONE, Continuation(n));
     out.put_all(words);
@@ -129,8 +122,7 @@ fn put_handing(out: &mut Output<'_, u16>, n: u8, words: &[u16])
 // The end of the chain of a constructor's n arguments: k_n applied to the constructor of k_(n-1) down to k_0.
 pub fn put_making(out: &mut Output<'_, u16>, tag: u8, n: u8)
     requires { HasRoom out.old (n + 5) }
-    ensures same_reference { out.new.words.ghost_name ≡ out.old.words.ghost_name }
-    ensures put { Writes (0x0201 ∷ words images (making tag n)) out.old out.new }
+    ensures { Writes (0x0201 ∷ words images (making tag n)) out.old out.new }
 {
     put_handing(out, n, &[CONSTRUCTOR + tag as u16, n as u16]);
 }
@@ -138,8 +130,7 @@ pub fn put_making(out: &mut Output<'_, u16>, tag: u8, n: u8)
 // The end of the chain of an operation's parts: of n parts, k_n applied to the operation on k_(n-1) down to k_0.
 pub fn put_working(out: &mut Output<'_, u16>, operation: u8, parts: u8)
     requires { HasRoom out.old (parts + 4) }
-    ensures same_reference { out.new.words.ghost_name ≡ out.old.words.ghost_name }
-    ensures put { Writes (0x0201 ∷ words images (working operation parts)) out.old out.new }
+    ensures { Writes (0x0201 ∷ words images (working operation parts)) out.old out.new }
 {
     put_handing(out, parts, &[OPERATION + operation as u16]);
 }

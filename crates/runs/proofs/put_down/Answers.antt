@@ -5,5 +5,5 @@ use Rattle.runs.proofs.put_down.Goals as goal
 pub loop-i-preserved : goal.loop-i-preserved
 loop-i-preserved c = search runs
 
-pub returns-clause-put : goal.returns-clause-put
-returns-clause-put c = search runs
+pub returns : goal.returns
+returns c = search runs

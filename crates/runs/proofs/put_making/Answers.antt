@@ -2,5 +2,5 @@
 use Rattle.runs.proofs.Runs.{runs}
 use Rattle.runs.proofs.put_making.Goals as goal
 
-pub returns-clause-put : goal.returns-clause-put
-returns-clause-put c = search runs
+pub returns : goal.returns
+returns c = search runs
