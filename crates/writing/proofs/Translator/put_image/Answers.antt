@@ -1,9 +1,10 @@
 -- `writing::Translator::put_image` meets its contract: the image's words, run by run.
+use Rattle.std.proofs.Common.{arith}
 use Rattle.writing.proofs.Ways.{ways}
 use Rattle.writing.proofs.Translator.put_image.Goals as goal
 
 pub put_identity-requires : goal.put_identity-requires
 put_identity-requires c = search ways
 
-pub returns-clause-done : goal.returns-clause-done
-returns-clause-done c = search ways
+pub returns : goal.returns
+returns c = record { same = grind arith; done = search ways }
