@@ -13,7 +13,7 @@ pub put_arms-put_handed-requires : goal.put_arms-put_handed-requires
 put_arms-put_handed-requires t c = search ways
 
 pub put_arms-returns : goal.put_arms-returns
-put_arms-returns t c = record { same = grind arith; done = search ways }
+put_arms-returns t c = search ways
 
 pub put_atom-put_added-requires : goal.put_atom-put_added-requires
 put_atom-put_added-requires t c = search ways
@@ -22,7 +22,7 @@ pub put_atom-put_carried-requires : goal.put_atom-put_carried-requires
 put_atom-put_carried-requires t c = search ways
 
 pub put_atom-returns : goal.put_atom-returns
-put_atom-returns t c = record { same = grind arith; done = search ways }
+put_atom-returns t c = search ways
 
 pub put_build-put_chain-requires : goal.put_build-put_chain-requires
 put_build-put_chain-requires t c = search ways
@@ -31,7 +31,7 @@ pub put_build-put_making-requires : goal.put_build-put_making-requires
 put_build-put_making-requires t c = search ways
 
 pub put_build-returns : goal.put_build-returns
-put_build-returns t c = record { same = grind arith; done = search ways }
+put_build-returns t c = search ways
 
 pub put_call-put_calling-requires : goal.put_call-put_calling-requires
 put_call-put_calling-requires t c = search ways
@@ -40,7 +40,7 @@ pub put_call-put_chain-requires : goal.put_call-put_chain-requires
 put_call-put_chain-requires t c = search ways
 
 pub put_call-returns : goal.put_call-returns
-put_call-returns t c = record { same = grind arith; done = search ways }
+put_call-returns t c = search ways
 
 pub put_carried-parts_at-requires : goal.put_carried-parts_at-requires
 put_carried-parts_at-requires t c = search ways
@@ -67,7 +67,7 @@ pub put_carrieds-put_carried-requires : goal.put_carrieds-put_carried-requires
 put_carrieds-put_carried-requires t c = search ways
 
 pub put_carrieds-returns : goal.put_carrieds-returns
-put_carrieds-returns t c = record { same = grind arith; done = search ways }
+put_carrieds-returns t c = search ways
 
 pub put_chain-links-preserved : goal.put_chain-links-preserved
 put_chain-links-preserved t c = search ways
@@ -76,7 +76,7 @@ pub put_chain-put_link-requires : goal.put_chain-put_link-requires
 put_chain-put_link-requires t c = search ways
 
 pub put_chain-returns : goal.put_chain-returns
-put_chain-returns t c = record { same = grind arith; done = search ways }
+put_chain-returns t c = search ways
 
 pub put_constructor-count_at-count-requires : goal.put_constructor-count_at-count-requires
 put_constructor-count_at-count-requires t c = search ways
@@ -88,7 +88,7 @@ pub put_constructor-put_copied-requires-clause-ready : goal.put_constructor-put_
 put_constructor-put_copied-requires-clause-ready t c = search ways
 
 pub put_constructor-returns : goal.put_constructor-returns
-put_constructor-returns t c = record { same = grind arith; done = search ways }
+put_constructor-returns t c = search ways
 
 pub put_function-overflow_add-head : goal.put_function-overflow_add-head
 put_function-overflow_add-head t c = omega (arith, kept_small c.requires.ready)
@@ -100,13 +100,13 @@ pub put_function-put_handed-requires : goal.put_function-put_handed-requires
 put_function-put_handed-requires t c = search ways
 
 pub put_function-returns : goal.put_function-returns
-put_function-returns t c = record { same = grind arith; done = search ways }
+put_function-returns t c = search ways
 
 pub put_handed-put_continuation-requires : goal.put_handed-put_continuation-requires
 put_handed-put_continuation-requires t c = search ways
 
 pub put_handed-returns : goal.put_handed-returns
-put_handed-returns t c = record { same = grind arith; done = search ways }
+put_handed-returns t c = search ways
 
 pub put_let-put_added-requires : goal.put_let-put_added-requires
 put_let-put_added-requires t c = search ways
@@ -118,7 +118,7 @@ pub put_let-put_link-requires : goal.put_let-put_link-requires
 put_let-put_link-requires t c = search ways
 
 pub put_let-returns : goal.put_let-returns
-put_let-returns t c = record { same = grind arith; done = search ways }
+put_let-returns t c = search ways
 
 pub put_match-put_added-requires : goal.put_match-put_added-requires
 put_match-put_added-requires t c = search ways
@@ -130,7 +130,7 @@ pub put_match-put_link-requires : goal.put_match-put_link-requires
 put_match-put_link-requires t c = search ways
 
 pub put_match-returns : goal.put_match-returns
-put_match-returns t c = record { same = grind arith; done = search ways }
+put_match-returns t c = search ways
 
 pub put_operation-put_chain-requires : goal.put_operation-put_chain-requires
 put_operation-put_chain-requires t c = search ways
@@ -139,7 +139,7 @@ pub put_operation-put_working-requires : goal.put_operation-put_working-requires
 put_operation-put_working-requires t c = search ways
 
 pub put_operation-returns : goal.put_operation-returns
-put_operation-returns t c = record { same = grind arith; done = search ways }
+put_operation-returns t c = search ways
 
 pub put_passing-put_atom-requires : goal.put_passing-put_atom-requires
 put_passing-put_atom-requires t c = search ways

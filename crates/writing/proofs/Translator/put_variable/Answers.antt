@@ -1,5 +1,4 @@
 -- `writing::Translator::put_variable` meets its contract: the variable's head, and its word is passed over.
-use Rattle.std.proofs.Common.{arith}
 use Rattle.writing.proofs.Ways.{ways}
 use Rattle.writing.proofs.Translator.put_variable.Goals as goal
 
@@ -7,4 +6,4 @@ pub put_source-requires : goal.put_source-requires
 put_source-requires c = search ways
 
 pub returns : goal.returns
-returns c = record { same = grind arith; done = search ways }
+returns c = search ways
