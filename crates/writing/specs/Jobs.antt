@@ -86,12 +86,14 @@ pub record Done (J : Job) (o : List ℕ) (p : ℕ) (s : List ℕ) (at : ℕ) (o'
 abbrev pub ReadyFor : Job → Translator → Type 0
 ReadyFor J t = Ready J t.out.now.words.now t.out.now.pos t.rule.now t.at
 
-abbrev pub Does : Job → Translator → Translator → Type 0
-Does J t t' = Done J t.out.now.words.now t.out.now.pos t.rule.now t.at t'.out.now.words.now t'.rule.now t'.at t'.out.now.pos
-
 -- it has the same output, and that the same memory
 abbrev pub SameOutput : Translator → Translator → Type 0
 SameOutput t t' = (t'.out.ghost_name ≡ t.out.ghost_name) × (t'.out.now.words.ghost_name ≡ t.out.now.words.ghost_name)
+
+-- J was done by a translator, which was t and is t' by now; it has the same output
+pub record Does (J : Job) (t t' : Translator) : Type 0 where
+  pub same : SameOutput t t'
+  pub done : Done J t.out.now.words.now t.out.now.pos t.rule.now t.at t'.out.now.words.now t'.rule.now t'.at t'.out.now.pos
 
 -- of a translator that reads a term of at most d levels next: P is what follows its head, and b tells whether it is an atom
 abbrev pub NextIs : Parts → ℕ → Translator → Type 0

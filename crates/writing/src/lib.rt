@@ -5,7 +5,7 @@
 ghost use Rattle.std.specs.Prelude.{◌≡◌, ◌%◌, ◌<◌, true, false, length, get_or};
 ghost use Rattle.language.specs.Words.{head};
 ghost use Rattle.language.specs.declared.Parts.TheVariants.{Nothing, Body, FunctionAndArguments, BoundAndBody, CountAndArguments, SubjectAndArms, HighAndLow, TwoParts};
-ghost use Rattle.writing.specs.Jobs.{passed, kept, keeps, chained, branches, copied, linked, handed, imaged, ReadyFor, NextIs, NextIsAtom, SameOutput, Does};
+ghost use Rattle.writing.specs.Jobs.{passed, kept, keeps, chained, branches, copied, linked, handed, imaged, ReadyFor, NextIs, NextIsAtom, Does};
 ghost use Rattle.writing.specs.Written.{SomeWritable, ImageWritten};
 
 use atoms::{HEAD_AND_COUNT, HEAD_AND_NUMBER};
@@ -35,8 +35,7 @@ impl<'rule, 'out, 'words> Translator<'rule, 'out, 'words> {
     fn put_copied(&mut self, count: usize)
         requires some { 0 < count }
         requires ready { ReadyFor (copied count) self.old }
-        ensures same_reference { SameOutput self.old self.new }
-        ensures done { Does (copied count) self.old self.new }
+        ensures { Does (copied count) self.old self.new }
     {
         let end = self.at + count;
         self.out.put_all(&self.rule[self.at..end]);
@@ -46,8 +45,7 @@ impl<'rule, 'out, 'words> Translator<'rule, 'out, 'words> {
     // The image of a rule.
     fn put_image(&mut self)
         requires { ReadyFor imaged self.old }
-        ensures same_reference { SameOutput self.old self.new }
-        ensures done { Does imaged self.old self.new }
+        ensures { Does imaged self.old self.new }
     {
         self.out.put(runs::CALL_OF_ONE);
         self.put_passing(language::DEEPEST);
@@ -58,8 +56,7 @@ impl<'rule, 'out, 'words> Translator<'rule, 'out, 'words> {
     #[cycle(forms)]
     fn put_passing(&mut self, depth: usize)
         requires { ReadyFor (passed depth) self.old }
-        ensures same_reference { SameOutput self.old self.new }
-        ensures done { Does (passed depth) self.old self.new }
+        ensures { Does (passed depth) self.old self.new }
     {
         match atoms::parts_at(self.rule, self.at) {
             Parts::Nothing | Parts::Body | Parts::HighAndLow => self.put_atom(depth),
@@ -83,8 +80,7 @@ impl<'rule, 'out, 'words> Translator<'rule, 'out, 'words> {
     fn put_atom(&mut self, depth: usize)
         requires ready { ReadyFor (passed depth) self.old }
         requires atom { NextIsAtom true depth self.old }
-        ensures same_reference { SameOutput self.old self.new }
-        ensures done { Does (passed depth) self.old self.new }
+        ensures { Does (passed depth) self.old self.new }
     {
         runs::put_added(self.out, runs::CALL_OF_ONE, Continuation(0));
         self.put_carried(depth);
@@ -95,8 +91,7 @@ impl<'rule, 'out, 'words> Translator<'rule, 'out, 'words> {
     fn put_call(&mut self, depth: usize)
         requires ready { ReadyFor (passed depth) self.old }
         requires form { NextIs FunctionAndArguments depth self.old }
-        ensures same_reference { SameOutput self.old self.new }
-        ensures done { Does (passed depth) self.old self.new }
+        ensures { Does (passed depth) self.old self.new }
     {
         let arguments = self.low_byte();
         self.at += 1;
@@ -109,8 +104,7 @@ impl<'rule, 'out, 'words> Translator<'rule, 'out, 'words> {
     fn put_let(&mut self, depth: usize)
         requires ready { ReadyFor (passed depth) self.old }
         requires form { NextIs BoundAndBody depth self.old }
-        ensures same_reference { SameOutput self.old self.new }
-        ensures done { Does (passed depth) self.old self.new }
+        ensures { Does (passed depth) self.old self.new }
     {
         self.at += 1;
         self.put_link(depth - 1);
@@ -124,8 +118,7 @@ impl<'rule, 'out, 'words> Translator<'rule, 'out, 'words> {
         requires ready { ReadyFor (passed depth) self.old }
         requires form { NextIs CountAndArguments depth self.old }
         requires no_atom { NextIsAtom false depth self.old }
-        ensures same_reference { SameOutput self.old self.new }
-        ensures done { Does (passed depth) self.old self.new }
+        ensures { Does (passed depth) self.old self.new }
     {
         let tag = self.low_byte();
         let count = atoms::count_at(self.rule, self.at);
@@ -139,8 +132,7 @@ impl<'rule, 'out, 'words> Translator<'rule, 'out, 'words> {
     fn put_operation(&mut self, depth: usize)
         requires ready { ReadyFor (passed depth) self.old }
         requires form { NextIs TwoParts depth self.old }
-        ensures same_reference { SameOutput self.old self.new }
-        ensures done { Does (passed depth) self.old self.new }
+        ensures { Does (passed depth) self.old self.new }
     {
         let operation = self.low_byte();
         self.at += 1;
@@ -153,8 +145,7 @@ impl<'rule, 'out, 'words> Translator<'rule, 'out, 'words> {
     fn put_match(&mut self, depth: usize)
         requires ready { ReadyFor (passed depth) self.old }
         requires form { NextIs SubjectAndArms depth self.old }
-        ensures same_reference { SameOutput self.old self.new }
-        ensures done { Does (passed depth) self.old self.new }
+        ensures { Does (passed depth) self.old self.new }
     {
         let word = self.rule[self.at];
         self.at += 1;
@@ -167,8 +158,7 @@ impl<'rule, 'out, 'words> Translator<'rule, 'out, 'words> {
     #[cycle(forms)]
     fn put_link(&mut self, depth: usize)
         requires { ReadyFor (linked depth) self.old }
-        ensures same_reference { SameOutput self.old self.new }
-        ensures done { Does (linked depth) self.old self.new }
+        ensures { Does (linked depth) self.old self.new }
     {
         self.out.put_all(&[runs::ADDED_FUNCTION, runs::CALL_OF_ONE]);
         self.put_passing(depth);
@@ -178,8 +168,7 @@ impl<'rule, 'out, 'words> Translator<'rule, 'out, 'words> {
     #[cycle(forms)]
     fn put_handed(&mut self, depth: usize, k: Continuation)
         requires { ReadyFor (handed depth (head 9 k.0)) self.old }
-        ensures same_reference { SameOutput self.old self.new }
-        ensures done { Does (handed depth (head 9 k.0)) self.old self.new }
+        ensures { Does (handed depth (head 9 k.0)) self.old self.new }
     {
         self.out.put(runs::CALL_OF_ONE);
         self.put_passing(depth);
@@ -190,8 +179,7 @@ impl<'rule, 'out, 'words> Translator<'rule, 'out, 'words> {
     #[cycle(forms)]
     fn put_carried(&mut self, depth: usize)
         requires { ReadyFor (kept depth) self.old }
-        ensures same_reference { SameOutput self.old self.new }
-        ensures done { Does (kept depth) self.old self.new }
+        ensures { Does (kept depth) self.old self.new }
     {
         match atoms::parts_at(self.rule, self.at) {
             Parts::Nothing => self.put_variable(depth),
@@ -210,8 +198,7 @@ impl<'rule, 'out, 'words> Translator<'rule, 'out, 'words> {
     fn put_variable(&mut self, depth: usize)
         requires ready { ReadyFor (kept depth) self.old }
         requires form { NextIs Nothing depth self.old }
-        ensures same_reference { SameOutput self.old self.new }
-        ensures done { Does (kept depth) self.old self.new }
+        ensures { Does (kept depth) self.old self.new }
     {
         let variable = Source(self.low_byte());
         runs::put_source(self.out, variable);
@@ -222,8 +209,7 @@ impl<'rule, 'out, 'words> Translator<'rule, 'out, 'words> {
     fn put_number(&mut self, depth: usize)
         requires ready { ReadyFor (kept depth) self.old }
         requires form { NextIs HighAndLow depth self.old }
-        ensures same_reference { SameOutput self.old self.new }
-        ensures done { Does (kept depth) self.old self.new }
+        ensures { Does (kept depth) self.old self.new }
     {
         self.put_copied(HEAD_AND_NUMBER);
     }
@@ -233,8 +219,7 @@ impl<'rule, 'out, 'words> Translator<'rule, 'out, 'words> {
     fn put_function(&mut self, depth: usize)
         requires ready { ReadyFor (kept depth) self.old }
         requires form { NextIs Body depth self.old }
-        ensures same_reference { SameOutput self.old self.new }
-        ensures done { Does (kept depth) self.old self.new }
+        ensures { Does (kept depth) self.old self.new }
     {
         let head = self.rule[self.at];
         self.out.put(head + 1);
@@ -247,8 +232,7 @@ impl<'rule, 'out, 'words> Translator<'rule, 'out, 'words> {
     fn put_constructor(&mut self, depth: usize)
         requires ready { ReadyFor (kept depth) self.old }
         requires form { NextIs CountAndArguments depth self.old }
-        ensures same_reference { SameOutput self.old self.new }
-        ensures done { Does (kept depth) self.old self.new }
+        ensures { Does (kept depth) self.old self.new }
     {
         let count = atoms::count_at(self.rule, self.at);
         self.put_copied(HEAD_AND_COUNT);
@@ -259,8 +243,7 @@ impl<'rule, 'out, 'words> Translator<'rule, 'out, 'words> {
     #[cycle(forms)]
     fn put_carrieds(&mut self, depth: usize, count: usize)
         requires { ReadyFor (keeps depth count) self.old }
-        ensures same_reference { SameOutput self.old self.new }
-        ensures done { Does (keeps depth count) self.old self.new }
+        ensures { Does (keeps depth count) self.old self.new }
     {
         'atoms: for _ in 0..count {
             self.put_carried(depth);
@@ -271,8 +254,7 @@ impl<'rule, 'out, 'words> Translator<'rule, 'out, 'words> {
     #[cycle(forms)]
     fn put_chain(&mut self, depth: usize, count: usize)
         requires { ReadyFor (chained depth count) self.old }
-        ensures same_reference { SameOutput self.old self.new }
-        ensures done { Does (chained depth count) self.old self.new }
+        ensures { Does (chained depth count) self.old self.new }
     {
         'links: for _ in 0..count {
             self.put_link(depth);
@@ -283,8 +265,7 @@ impl<'rule, 'out, 'words> Translator<'rule, 'out, 'words> {
     #[cycle(forms)]
     fn put_arms(&mut self, depth: usize, count: usize)
         requires { ReadyFor (branches depth count) self.old }
-        ensures same_reference { SameOutput self.old self.new }
-        ensures done { Does (branches depth count) self.old self.new }
+        ensures { Does (branches depth count) self.old self.new }
     {
         'arms: for _ in 0..count {
             self.put_copied(HEAD_AND_COUNT);

@@ -5,5 +5,5 @@ use Rattle.writing.proofs.Translator.put_image.Goals as goal
 pub put_identity-requires : goal.put_identity-requires
 put_identity-requires c = search ways
 
-pub returns-clause-done : goal.returns-clause-done
-returns-clause-done c = search ways
+pub returns : goal.returns
+returns c = search ways

@@ -5,5 +5,5 @@ use Rattle.writing.proofs.Translator.put_number.Goals as goal
 pub put_copied-requires-clause-ready : goal.put_copied-requires-clause-ready
 put_copied-requires-clause-ready c = search ways
 
-pub returns-clause-done : goal.returns-clause-done
-returns-clause-done c = search ways
+pub returns : goal.returns
+returns c = search ways

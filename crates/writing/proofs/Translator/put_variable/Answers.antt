@@ -5,5 +5,5 @@ use Rattle.writing.proofs.Translator.put_variable.Goals as goal
 pub put_source-requires : goal.put_source-requires
 put_source-requires c = search ways
 
-pub returns-clause-done : goal.returns-clause-done
-returns-clause-done c = search ways
+pub returns : goal.returns
+returns c = search ways
