@@ -24,7 +24,7 @@ pub record Takes (o o' : Records) (r : Option ℕ) : Type 0 where
   pub words : o'.words.now ≡ o.words.now
   pub next : Next (length o.words.now) o.free o'.free r
 
--- and after words were written into it: they are over the same lent memory, which holds the words there
+-- and after the words ws were kept in it: they are over the same lent memory, which then holds them, or is as before where no record was left
 pub record Keeps (ws : List ℕ) (o o' : Records) (r : Option ℕ) : Type 0 where
   pub same : o'.words.ghost_name ≡ o.words.ghost_name
   pub kept : Kept ws o.words.now o'.words.now o.free o'.free r
