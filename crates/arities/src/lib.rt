@@ -43,7 +43,7 @@ pub fn mark(w: u16, m: u16) -> u16
 fn is_among(x: u16, marks: &[u16]) -> bool
     ensures { result ≡ dead (x / 256) (x % 256) (unmarked marks.now) }
 {
-    marks.contains(&x)
+    marks.iter().any(|mark| *mark == x)
 }
 
 // The second word of an arm with the head w, its arity; the arms before it in its match have these marks.

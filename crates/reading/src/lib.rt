@@ -44,8 +44,8 @@ const SAVED_WORDS: usize = 6;
 // What was read: the place after it, whether it is all atoms, and its words in an image (of a term the passing form's, of a list the chain's).
 #[derive(Clone, Copy)]
 struct Found {
-    to: usize,
     atoms: bool,
+    to: usize,
     words: usize,
 }
 
@@ -187,8 +187,8 @@ impl<'a> Table<'a> {
     // The term at this place.
     #[cycle(terms)]
     #[tactic(auto, using(crate::proofs::Sums::row_binds, crate::proofs::Sums::row_arms), unfolding(crate::specs::Steps::step_of, language::specs::Read::term))]
-    fn term(self, at: usize, level: Level) -> Result<Found, Refusal>
-        ensures { step_is result ≡ term_step (term (in_version self.entry.version) self.entry.words.now level.left level.bound at) }
+    fn term(&self, at: usize, level: Level) -> Result<Found, Refusal>
+        ensures { step_is result ≡ term_step (term (in_version self.now.version) self.now.words.now level.left level.bound at) }
     {
         if self.words.len() <= at {
             return Err(Fault::NoneLeft.at(self.words.len()));
@@ -204,9 +204,9 @@ impl<'a> Table<'a> {
     // The term whose head, at this place, has this low byte and this row.
     #[cycle(terms)]
     #[tactic(auto, using(crate::proofs::Ways::ways), unfolding(crate::specs::Steps::step_of, language::specs::Read::opened))]
-    fn opened(self, at: usize, level: Level, low: usize, row: Row) -> Result<Found, Refusal>
-        requires { (0 < level.left) × (at < length self.words.now) × (low ≤ most_byte) × (row.binds ≤ 1) × FewArms row.parts low }
-        ensures { step_is result ≡ term_step (opened (in_version self.entry.version) self.entry.words.now (term (in_version self.entry.version) self.entry.words.now (level.left - 1)) level.bound at low row.binds row.parts) }
+    fn opened(&self, at: usize, level: Level, low: usize, row: Row) -> Result<Found, Refusal>
+        requires { (0 < level.left) × (at < length self.now.words.now) × (low ≤ most_byte) × (row.binds ≤ 1) × FewArms row.parts low }
+        ensures { step_is result ≡ term_step (opened (in_version self.now.version) self.now.words.now (term (in_version self.now.version) self.now.words.now (level.left - 1)) level.bound at low row.binds row.parts) }
     {
         let next = at + 1;
         let binds = usize::from(row.binds);
@@ -244,12 +244,13 @@ impl<'a> Table<'a> {
         }
     }
 
-    // So many terms, one after the other.
+    // So many terms, one after the other. Within the reader of terms, so that a level takes one frame.
+    #[inline(always)]
     #[cycle(terms)]
     #[tactic(auto, using(crate::proofs::Ways::terms_ways))]
-    fn list(self, at: usize, level: Level, count: usize) -> Result<Found, Refusal>
+    fn list(&self, at: usize, level: Level, count: usize) -> Result<Found, Refusal>
         requires { count < a_word }
-        ensures { step_is result ≡ terms_step (many (term (in_version self.entry.version) self.entry.words.now level.left level.bound) count at) }
+        ensures { step_is result ≡ terms_step (many (term (in_version self.now.version) self.now.words.now level.left level.bound) count at) }
     {
         let mut list = Found::nothing(at, true);
         for _ in 0..count {
@@ -260,11 +261,12 @@ impl<'a> Table<'a> {
     }
 
     // The arms of a match, so many. Each arm's mark is kept for those behind it.
+    #[inline(always)]
     #[cycle(terms)]
     #[tactic(auto, using(crate::proofs::Ways::arms_ways))]
-    fn arms(self, at: usize, level: Level, count: usize) -> Result<Found, Refusal>
+    fn arms(&self, at: usize, level: Level, count: usize) -> Result<Found, Refusal>
         requires { (0 < level.left) × (count ≤ most_arms) }
-        ensures { step_is result ≡ arms_step (arms_of (in_version self.entry.version) self.entry.words.now (term (in_version self.entry.version) self.entry.words.now (level.left - 1)) [] level.bound count at) }
+        ensures { step_is result ≡ arms_step (arms_of (in_version self.now.version) self.now.words.now (term (in_version self.now.version) self.now.words.now (level.left - 1)) [] level.bound count at) }
     {
         let mut marks = [0; language::MOST_ARMS as usize];
         let mut arms = Found::nothing(at, false);
@@ -276,6 +278,37 @@ impl<'a> Table<'a> {
         }
         Ok(arms)
     }
+}
+
+// The closed term that stands at a place of a table, after the tests of the version and of the table's length.
+#[tactic(auto, using(crate::proofs::Answers::known_byte), unfolding(language::specs::Read::closed, crate::specs::Steps::step_of))]
+fn closed_at(version: u16, s: &[u16], at: usize) -> Result<Found, Refusal>
+    ensures { step_is result ≡ term_step (closed (in_version version) s.now at) }
+{
+    if !language::is_known(version) {
+        return Err(Fault::WrongVersion.into());
+    }
+    if s.is_empty() {
+        return Err(Fault::NoWords.into());
+    }
+    if language::MOST_WORDS < s.len() {
+        return Err(Fault::TooManyWords.into());
+    }
+    let table = Table {
+        version: version as u8,
+        words: s,
+    };
+    table.term(at, Level::top())
+}
+
+// The test after the last word: at a place of a table no word is left.
+fn ended_at(s: &[u16], at: usize) -> Result<(), Refusal>
+    ensures { MatchResult result (λ _. length s.now ≤ at) (λ r. (at < length s.now) × (r ≡ record { fault = LeftOver; place = at })) }
+{
+    if at < s.len() {
+        return Err(Fault::LeftOver.at(at));
+    }
+    Ok(())
 }
 
 // A reading place: the lent table, and the place of its next word.
@@ -300,35 +333,18 @@ impl<'a> Reader<'a> {
         Reader { next: to, ..self }
     }
 
-    // The closed term at the reading place, after the tests of the version and of the table's length.
-    #[tactic(auto, using(crate::proofs::Answers::known_byte), unfolding(language::specs::Read::closed, crate::specs::Steps::step_of))]
+    // The closed term at the reading place.
     fn closed(self, version: u16) -> Result<Found, Refusal>
         ensures { step_is result ≡ term_step (closed (in_version version) self.entry.words.now self.entry.next) }
     {
-        if !language::is_known(version) {
-            return Err(Fault::WrongVersion.into());
-        }
-        if self.words.is_empty() {
-            return Err(Fault::NoWords.into());
-        }
-        if language::MOST_WORDS < self.words.len() {
-            return Err(Fault::TooManyWords.into());
-        }
-        let table = Table {
-            version: version as u8,
-            words: self.words,
-        };
-        table.term(self.next, Level::top())
+        closed_at(version, self.words, self.next)
     }
 
-    // The test after the last word: at the reading place no word is left.
+    // The test after the last word, at the reading place.
     fn ended(self) -> Result<(), Refusal>
         ensures { MatchResult result (λ _. length self.entry.words.now ≤ self.entry.next) (λ r. (self.entry.next < length self.entry.words.now) × (r ≡ record { fault = LeftOver; place = self.entry.next })) }
     {
-        if self.next < self.words.len() {
-            return Err(Fault::LeftOver.at(self.next));
-        }
-        Ok(())
+        ended_at(self.words, self.next)
     }
 }
 
