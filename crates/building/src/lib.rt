@@ -74,11 +74,11 @@ pub fn told_at(records: &[u32], value: usize) -> Told
     match Kind::of(records::word_at(records, value, records::KIND)) {
         Some(Kind::Number) => NUMBER,
         Some(Kind::Function) => FUNCTION,
-        Some(Kind::Constructor) => Told {
+        // Where no value stands, what a constructor's record would tell.
+        Some(Kind::Constructor) | None => Told {
             grade: records::word_at(records, value, records::GRADE),
             last: records::link_at(records, value, records::LAST),
         },
-        None => NOTHING,
     }
 }
 

@@ -138,11 +138,11 @@ module _ {s m₀ m vs₀ vs : List ℕ} {n₀ n at i p : ℕ} {b : Bound} (g : G
     unfolding takes
     sums z = z.left.sum ∙ ap (λ (ts : Terms). z.left.x + takesᵗ ts) z.next.are
 
-    pub g_full : {vs' : List ℕ} {w : Option (Unit {0})} → r ≡ None → w ≡ None → length vs' ≡ length vs → TookAllSays s m₀ m' vs₀ vs' n₀ n' at b w
-    g_full {vs'} e o y = rw o record { long = h.long ∙ g.long; kept = y ∙ g.kept; says = λ q. let z = step q e in go q z z.took }
+    pub g_full : {vs' : List ℕ} {n'' : ℕ} {w : Option (Unit {0})} → r ≡ None → w ≡ None → length vs' ≡ length vs → TookAllSays s m₀ m' vs₀ vs' n₀ n'' at b w
+    g_full {vs'} {n''} e o y = rw o record { long = h.long ∙ g.long; kept = y ∙ g.kept; says = λ q. let z = step q e in go q z z.took }
       where
         go : (q : Takingᵗ s m₀ n₀ at (length vs₀) b) (z : Step q None) {c : Closure} → TookOne s m m' n n' (takes z.next.t) c None
-            → TookAll s m₀ m' n₀ n' (takesᵗ q.ts) vs' (values q.ts q.bounds.ks q.bounds.xs) None
+            → TookAll s m₀ m' n₀ n'' (takesᵗ q.ts) vs' (values q.ts q.bounds.ks q.bounds.xs) None
         go q z (full y) = full (omega (arith, sums z, z.left.used, z.left.grown.long))
 
     -- the next atom is taken, and what is left of them stands at p'

@@ -13,9 +13,10 @@ use Rattle.language.specs.Term.{images, Term, Terms, con, size}
 use Rattle.language.specs.Words.{word_end, words}
 use Rattle.language.specs.Scope.{Scoped, s_var, s_kvar, s_con}
 use Rattle.language.specs.Limits.{Ranged, r_con}
+use Rattle.language.proofs.Clash.{never}
 use Rattle.language.proofs.Places.{first_word, next_words}
 use Rattle.ticks.specs.Flat.{FlatAtom}
-use Rattle.ticks.specs.Tick.{Closures, sizeᶜ, value, values, takes, takesᵗ}
+use Rattle.ticks.specs.Tick.{Closure, Closures, sizeᶜ, value, values, takes, takesᵗ}
 use Rattle.records.specs.Links.{low, high, found_from}
 use Rattle.records.specs.Kept.{Kept, kept, not_kept}
 use Rattle.records.specs.Memory.{Laid, Laidᵗ, a_function, a_number}
@@ -31,6 +32,14 @@ kept_long : {ws m m' : List ℕ} {n n' : ℕ} {r : Option ℕ} → Kept ws m m' 
 kept_long {ws} {m} (kept i h p q) = ap length p.holds ∙ length-sets m _ ws
 kept_long (not_kept h e i) = ap length e
 
+-- where none is left, those that were free are free
+pub kept_freed : {ws m m' : List ℕ} {n n' : ℕ} {r : Option ℕ} → Kept ws m m' n n' r → r ≡ None → n' ≡ n
+kept_freed (kept i h p q) e = never cc
+kept_freed (not_kept h e i) z = i
+
+pub some_taken : {A : Type 0} {x : A} {n n' : ℕ} → Some x ≡ None → n' ≡ n
+some_taken e = never cc
+
 -- what is to be shown of the term that stands there
 abbrev One : {s m : List ℕ} {n : ℕ} {b : Bound} → List ℕ → ℕ → Option ℕ → Bounds s m n b → Term → Type 0
 One {s} {m} {n} m' n' r B t = TookOne s m m' n n' (takes t) (value t B.ks B.xs) r
@@ -43,6 +52,13 @@ built_long (is_built i e u) = u.grown.long
 built_long (not_built h e i) = ap length e
 
 module _ {s m : List ℕ} {n at : ℕ} {b : Bound} where
+  -- that there are not so many says nothing of the first free record
+  pub t_freed : {m' : List ℕ} {n' n'' : ℕ} {r : Option ℕ} → r ≡ None → TookSays s m m' n n' at b r → TookSays s m m' n n'' at b None
+  t_freed {m'} {n'} {n''} e h = record { long = h.long; says = λ q. go (rw e at (h.says q)) }
+    where
+      go : {x : ℕ} {c : Closure} → TookOne s m m' n n' x c None → TookOne s m m' n n'' x c None
+      go (full l) = full l
+
   -- a variable takes no record
   pub t_source : {j r : ℕ} → (get_or s at 0 / 256 ≡ 1) × (j ≡ get_or s at 0 % 256) → r ≡ found_from m b.sources j → TookSays s m m n n at b (Some r)
   unfolding takes value low_of
@@ -155,4 +171,4 @@ module _ {s m m₁ vs : List ℕ} {n n₁ at k : ℕ} {b : Bound} {o : Option (U
           rw (y, k, j) (taken {r = n₁} (omega arith) (grown_on g u.grown) (u.says s (values a.ps q.bounds.ks q.bounds.xs) v))
       go q a (taken i g v) (not_built l e k) = full (let y : takes q.t ≡ suc (takesᵗ a.ps) = ap takes a.is in omega (arith, g.long, g.room))
 
-pub ruleset ways = (t_source, t_continuation, t_number, t_function, inside, short_place, numbered, constructed, rules)
+pub ruleset ways = (t_source, t_continuation, t_number, t_function, kept_freed, some_taken, inside, short_place, numbered, constructed, rules)

@@ -54,13 +54,16 @@ pub record TookAllSays (s m m' vs vs' : List ℕ) (n n' at : ℕ) (b : Bound) (r
   pub kept : length vs' ≡ length vs
   pub says : (q : Takingᵗ s m n at (length vs) b) → TookAll s m m' n n' (takesᵗ q.ts) vs' (values q.ts q.bounds.ks q.bounds.xs) r
 
--- the same of a run's records, and of the image and what is bound: the records are over the same lent memory
+-- the same of a run's records, and of the image and what is bound: the records are over the same lent memory, and where there are not so many those
+-- that were free are free
 pub record Took (t : Taker) (at : ℕ) (o o' : Records) (r : Option ℕ) : Type 0 where
   pub same : o'.words.ghost_name ≡ o.words.ghost_name
+  pub freed : r ≡ None → o'.free ≡ o.free
   pub took : TookSays t.image.now o.words.now o'.words.now o.free o'.free at t.bound r
 
 pub record TookEach (t : Taker) (at : ℕ) (o o' : Records) (vs vs' : List ℕ) (r : Option (Unit {0})) : Type 0 where
   pub same : o'.words.ghost_name ≡ o.words.ghost_name
+  pub freed : r ≡ None → o'.free ≡ o.free
   pub took : TookAllSays t.image.now o.words.now o'.words.now vs vs' o.free o'.free at t.bound r
 
 -- the atom that the head word w says

@@ -124,8 +124,13 @@ impl<'a> Taker<'a> {
         let count = count_at(self.image, at);
         let mut values = [0usize; MOST_VALUES];
         let arguments = &mut values[..count];
+        let free = records.free;
         self.take_all(records, arguments, at + atoms::HEAD_AND_COUNT)?;
-        building::keep_constructor(records, tag, arguments)
+        let Some(base) = building::keep_constructor(records, tag, arguments) else {
+            records.free = free;
+            return None;
+        };
+        Some(base)
     }
 
     // The values of as many atoms as there are places for, in the order of their words. What stands behind the last need not be found.
@@ -135,9 +140,14 @@ impl<'a> Taker<'a> {
         ensures { TookEach self.now at records.old records.new values.old values.new result }
     {
         let count = values.len();
+        let free = records.free;
         let mut place = at;
         for (i, value) in values.iter_mut().enumerate() {
-            *value = self.take(records, place)?;
+            let Some(taken) = self.take(records, place) else {
+                records.free = free;
+                return None;
+            };
+            *value = taken;
             if i + 1 < count {
                 place = skip(self.image, place);
             }
