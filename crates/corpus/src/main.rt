@@ -29,6 +29,11 @@ const WORD_TEXT: usize = 5;
 
 const SHORT_TEXT: usize = WORD_TEXT * SHORT_IMAGE;
 
+// A word's digits are all of its text but the byte behind them. A checksum's text is the digits of both sums and the line's end.
+const WORD_DIGITS: usize = WORD_TEXT - 1;
+
+const CHECKSUM_TEXT: usize = 2 * WORD_DIGITS + 1;
+
 // The checksum's modulus, the greatest prime below 65,536.
 const MODULUS: u32 = 65521;
 
@@ -57,8 +62,18 @@ fn checksum(words: &[u16]) -> Sums {
 // Prints an accepted rule's line, and its image where that is short.
 fn print_image<W: Write>(out: &mut W, image: &[u16]) -> io::Result<()> {
     let sums = checksum(image);
-    let (count, high, low) = (image.len(), sums.high, sums.low);
-    writeln!(out, "ok {count} {high:04X}{low:04X}")?;
+    let count = image.len();
+    let mut text = [0u8; CHECKSUM_TEXT];
+    let mut digits = Output {
+        words: &mut text,
+        pos: 0,
+    };
+    listing::put_word(&mut digits, sums.high as u16, b' ');
+    // The line goes on without the space.
+    digits.pos = WORD_DIGITS;
+    listing::put_word(&mut digits, sums.low as u16, b'\n');
+    write!(out, "ok {count} ")?;
+    out.write_all(&text)?;
     print_short(out, image)
 }
 

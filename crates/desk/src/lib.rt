@@ -6,6 +6,7 @@ ghost use Rattle.std.specs.Prelude.{◌≡◌, ◌≤◌, length, IfOk};
 ghost use Rattle.language.specs.Calls.{reply_of, told, filled};
 ghost use Rattle.listing.specs.Printed.{printed};
 ghost use Rattle.desk.specs.Desk.{Counts, Translates, answer_text};
+ghost use Rattle.desk.specs.Told.{failure_line};
 
 use files::Form;
 use language::{Fault, Refusal};
@@ -28,7 +29,9 @@ pub enum Failure {
 
 impl Failure {
     // The line that tells it.
-    fn line(self) -> &'static [u8] {
+    fn line(self) -> &'static [u8]
+        ensures { result.now ≡ failure_line self }
+    {
         match self {
             Failure::NotRead => b"peatnickel: the input could not be read\n",
             Failure::NotWritten => b"peatnickel: the answer could not be written whole\n",

@@ -2,9 +2,9 @@
 
 #![tactic(auto)]
 
-ghost use Rattle.std.specs.Prelude.{◌≡◌};
+ghost use Rattle.std.specs.Prelude.{◌≡◌, Some};
 ghost use Rattle.language.specs.Kinds.{known, row_of, head_is, head_of};
-ghost use Rattle.language.specs.Faults.{number_of};
+ghost use Rattle.language.specs.Faults.{number_of, refusal_text};
 
 use std::fmt;
 
@@ -94,6 +94,8 @@ pub struct Refusal {
 
 // As it is printed: the number, and the place after it.
 impl fmt::Display for Refusal {
+    ghost output = { λ r. Some (refusal_text r) };
+
     fn fmt<W: fmt::Write>(&self, f: &mut fmt::Formatter<W>) -> fmt::Result {
         let (number, place) = (self.fault.number(), self.place);
         write!(f, "{number} {place}")
