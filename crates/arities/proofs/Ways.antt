@@ -1,21 +1,43 @@
--- The ways out of the reader of an arm's second word, behind the look among the earlier marks; and what an arm's two words tell a caller where they
--- are read.
+-- The ways out of the readers of second words, of an arm's behind the look among the earlier marks; and what an arm's two words tell a caller where
+-- they are read. A law's first letter says of which function: c second_at, u unlike_at.
 -- Assumes nothing.
 use Prim.Native.Nat.{ℕ, ◌+◌, ◌/◌, ◌%◌, ◌<◌, ◌≤◌}
-use mathlib.Core.Path.{◌≡◌, refl, sym}
+use mathlib.Core.Path.{◌≡◌, refl, sym, ap, ◌∙◌}
 use mathlib.Core.Bool.{Bool, true, false, cond}
 use mathlib.Core.List.{List}
 use native.Mathlib.Omega.{arith}
 use lib.Dec.{ltb}
 use lib.ListN.{length, get_or}
-use borrow.Author.Tests.{ltb-true}
+use borrow.Author.Tests.{ltb-true, lt-ltb, le-ltb, lt-leb, le-leb}
+use Rattle.std.specs.Prelude.{Result, Ok, Err}
 use Rattle.language.specs.Setting.{Setting}
 use Rattle.language.specs.Kinds.{most_arguments, at_arm, Head, Refused, Opens, head_of}
 use Rattle.language.specs.Dead.{dead}
 use Rattle.language.specs.Read.{Got, found, fault, then, word, headed, second, unlike}
+use Rattle.language.specs.declared.Fault.TheVariants.{NoneLeft, OutOfRange, DeadArm}
+use Rattle.language.specs.declared.Refusal.{Refusal}
 use Rattle.language.proofs.Clash.{never}
 use Rattle.trust.proofs.Good.{holds_found, second_good, unlike_good}
-use Rattle.arities.specs.Marks.{mark_of, arity}
+use Rattle.arities.specs.Marks.{mark_of, arity, counted}
+use Rattle.arities.specs.declared.Counted.{Counted}
+
+-- what a count says of the reading that it answers for
+pub is_found : (g : Got ℕ) {y : Result Counted Refusal} {c : Counted} → counted y ≡ g → y ≡ Ok c → g ≡ found c.count c.to
+is_found g h k = sym h ∙ ap counted k
+
+-- a second word
+module _ (s : List ℕ) (at : ℕ) where
+  pub c_none : length s ≤ at → counted (Err (record { fault = NoneLeft; place = length s })) ≡ second s at
+  unfolding second
+  c_none h = simp (le-ltb _ _ h)
+
+  pub c_high : at < length s → most_arguments < get_or s at 0 → counted (Err (record { fault = OutOfRange; place = at })) ≡ second s at
+  unfolding second
+  c_high h k = simp (lt-ltb _ _ h, lt-leb _ _ k)
+
+  pub c_is : at < length s → get_or s at 0 ≤ most_arguments → counted (Ok (record { count = get_or s at 0; to = at + 1 })) ≡ second s at
+  unfolding second
+  c_is h k = simp (lt-ltb _ _ h, le-leb _ _ k)
 
 -- an arm's second word, where it is told whether the arm's mark is among the earlier ones
 module _ (s : List ℕ) (at w : ℕ) (before : List (ℕ × ℕ)) {m to : ℕ} (e : found m to ≡ second s at) {x : ℕ} (q : x ≡ mark_of w m) {b : Bool}
@@ -34,6 +56,16 @@ module _ (s : List ℕ) (at w : ℕ) (before : List (ℕ × ℕ)) {m to : ℕ} (
   pub alive_there : b ≡ false → found m to ≡ unlike s before (w % 256) at
   unfolding unlike then
   alive_there h = rw (← e, ← tested, h)
+
+-- the same ways out by the count that the second word gives
+module _ (s : List ℕ) (at w : ℕ) (before : List (ℕ × ℕ)) {y : Result Counted Refusal} (e : counted y ≡ second s at) where
+  pub u_not : {r : Refusal} → y ≡ Err r → counted (Err r) ≡ unlike s before (w % 256) at
+  unfolding unlike then
+  u_not i = rw (← e, i) refl
+
+  pub u_dead : {c : Counted} → y ≡ Ok c → {x : ℕ} → x ≡ mark_of w c.count → {b : Bool} → b ≡ dead (x / 256) (x % 256) before → b ≡ true
+      → counted (Err (record { fault = DeadArm; place = at })) ≡ unlike s before (w % 256) at
+  u_dead i q d h = dead_there s at w before (sym (is_found (second s at) e i)) q d h
 
 -- what an arm's two words tell where they are read
 pub arity_known : (S : Setting) (s : List ℕ) (before : List (ℕ × ℕ)) (at : ℕ) {m to : ℕ} → found m to ≡ arity S s before at → (at < length s) × (m ≤ most_arguments)

@@ -11,9 +11,9 @@ use native.Mathlib.Omega.{arith}
 use lib.ListN.{length}
 use borrow.Author.Rules.{rules as bounds}
 use borrow.Author.Tests.{lt-ltb}
-use Rattle.language.specs.Term.{rules, Term, Terms, size, sizeᵃ}
-use Rattle.language.specs.Words.{words, wordsᵗ}
-use Rattle.language.specs.Limits.{Ranged, Rangedᵗ, r_var, r_kvar, r_fun, r_call, r_bind, r_con, r_cases, r_num, r_op, r_nil, r_cons}
+use Rattle.language.specs.Term.{rules, Term, Terms, Arms, size, sizeᵃ}
+use Rattle.language.specs.Words.{words, wordsᵗ, wordsᵃ}
+use Rattle.language.specs.Limits.{Ranged, Rangedᵗ, Rangedᵃ, r_var, r_kvar, r_fun, r_call, r_bind, r_con, r_cases, r_num, r_op, r_nil, r_cons}
 use Rattle.language.specs.Run.{atom, atoms}
 use Rattle.language.specs.Places.{Held}
 use Rattle.language.proofs.Clash.{never}
@@ -23,7 +23,7 @@ use Rattle.atoms.specs.Openings.{head_words, pieces_of, opening_at, Whole, Opens
 use Rattle.atoms.specs.declared.Opening.{Opening}
 use Rattle.atoms.specs.declared.Rest.{Rest}
 use Rattle.atoms.proofs.Standing.{term_least_in}
-use Rattle.atoms.proofs.Over.{opens, opens_fun, over}
+use Rattle.atoms.proofs.Over.{opens, opens_fun, over, overᵗ, overᵃ}
 
 -- From `at` on, with i pieces to be passed over and then n terms to be tested, which all stand in s, the pass answers b.
 pub data Pass (s : List ℕ) (b : Bool) : ℕ → ℕ → ℕ → Type 0 where
@@ -81,10 +81,21 @@ unfolding rest_after
 passed {s} n z at i l w p =
     went {at = at} {i = i} {n = n} {r = record { pieces = i - 1 + (opening_at s at).pieces; terms = n }} (omega (arith, fits p)) z (simp (lt-ltb 0 i l)) refl p
 
+-- A term is one piece, a list and arms are as many as they have: `Over`, of the pass.
+module _ {s : List ℕ} {b : Bool} {n : ℕ} (z : 0 < n) where
+  pass : {t : Term} {at to i j : ℕ} → Ranged rules t → Held s (words rules t) at to → j ≡ i + 1 → Pass s b to i n → Pass s b at j n
+  pass r k e p = over s (λ (x y : ℕ). Pass s b x y n) (passed n z) r k e p
+
+  passᵗ : {ts : Terms} {at to i j : ℕ} → Rangedᵗ rules ts → Held s (wordsᵗ rules ts) at to → j ≡ i + size ts → Pass s b to i n → Pass s b at j n
+  passᵗ r k e p = overᵗ s (λ (x y : ℕ). Pass s b x y n) (passed n z) r k e p
+
+  passᵃ : {ps : Arms} {at to i j : ℕ} → Rangedᵃ rules ps → Held s (wordsᵃ rules ps) at to → j ≡ i + sizeᵃ ps → Pass s b to i n → Pass s b at j n
+  passᵃ r k e p = overᵃ s (λ (x y : ℕ). Pass s b x y n) (passed n z) r k e p
+
 -- the body of a function behind which n terms are to be tested: where there are none, the pass has ended
 body : {s : List ℕ} {b : Bool} {c : Term} {at to : ℕ} (n : ℕ) → Ranged rules c → Held s (words rules c) at to → Pass s b to 0 n → Pass s b at 1 n
 body {c} {at} zero r k p = ended {at = at} {i = 1} {n = 0} (omega (arith, fits p, k.past, term_least_in rules c)) refl (says_yes p refl)
-body {s} {b} (suc n) r k p = over s (λ (x y : ℕ). Pass s b x y (suc n)) (passed (suc n) (omega arith)) r k refl p
+body (suc n) r k p = pass (omega arith) r k refl p
 
 -- What must be an atom is tested, and after it what stands behind it.
 module _ {s : List ℕ} where

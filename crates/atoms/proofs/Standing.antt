@@ -1,14 +1,14 @@
 -- Parts of a rule that stand one after the other, and a part that is taken apart into those that it is made of: a term by its head, a list by
 -- its length.
 -- Assumes nothing.
-use Prim.Native.Nat.{ℕ, ◌+◌, ◌-◌, ◌/◌, ◌%◌, ◌≤◌, ◌<◌}
+use Prim.Native.Nat.{ℕ, ◌+◌, ◌-◌, ◌*◌, ◌/◌, ◌%◌, ◌≤◌, ◌<◌}
 use mathlib.Core.Path.{◌≡◌, refl, sym, ap, subst, ◌∙◌}
 use mathlib.Core.List.{List, [], ◌∷◌}
 use native.Mathlib.Omega.{arith}
 use lib.ListN.{length, get_or, drop, length-append, length-drop}
-use Rattle.language.specs.Term.{Lang, rules, Term, Terms, Arms, var, kvar, fun, call, bind, con, cases, num, op, cons, size, sizeᵃ}
+use Rattle.language.specs.Term.{Lang, rules, Term, Terms, Arms, var, kvar, fun, call, bind, con, cases, num, op, cons, none, arm, size, sizeᵃ}
 use Rattle.language.specs.Kinds.{operands}
-use Rattle.language.specs.Words.{word_end, head, words}
+use Rattle.language.specs.Words.{word_end, head, words, wordsᵃ}
 use Rattle.language.specs.Limits.{Rangedᵗ, Rangedᵃ, r_nil, r_cons, r_none, r_arm, depth}
 use Rattle.language.specs.Places.{Held}
 use Rattle.language.specs.declared.Parts.TheVariants.{Nothing, Body, FunctionAndArguments, BoundAndBody, CountAndArguments, SubjectAndArms, ArityAndBody, HighAndLow, TwoParts}
@@ -145,11 +145,16 @@ pub count_there : {s : List ℕ} {at to d : ℕ} {t : Term} → Opened CountAndA
 unfolding words
 count_there (o_con h l rs) k = let n = next_words k.held in record { is = refl; inside = there n; few = omega (arith, first_word n) }
 
+-- the two words behind a number's head
+pub number_there : {s : List ℕ} {at to d : ℕ} {t : Term} → Opened HighAndLow t → Seen (term d) s at to t → at + 2 < length s
+unfolding words
+number_there o_num k = omega (arith, there (next_words (next_words k.held)))
+
 -- words that stand at a place are there
 reach : {s ws : List ℕ} {at to : ℕ} → Held s ws at to → length ws ≤ length s - at
 reach {s} {ws} {at} {to} h = omega (arith, ap length h.words, length-append ws (drop to s), length-drop at s)
 
--- a term has a word and a level, in either language
+-- a term has a word and a level, in either language; an arm has two words
 pub term_least_in : (L : Lang) (t : Term) → (1 ≤ length (words L t)) × (1 ≤ depth t)
 unfolding words depth
 term_least_in L (var i) = omega arith
@@ -162,8 +167,19 @@ term_least_in L (cases m ps) = omega arith
 term_least_in L (num n) = omega arith
 term_least_in L (op o ps) = omega arith
 
+pub term_least : (t : Term) → (1 ≤ length (words rules t)) × (1 ≤ depth t)
+term_least t = term_least_in rules t
+
+arms_least : (ps : Arms) → 2 * sizeᵃ ps ≤ length (wordsᵃ rules ps)
+unfolding words sizeᵃ
+arms_least none = omega arith
+arms_least (arm t n b ps) = omega (arith, arms_least ps, length-append (words rules b) (wordsᵃ rules ps))
+
 pub term_inside : {s : List ℕ} {at : ℕ} → TermAt s at → at < length s
 term_inside k = omega (arith, reach k.stands.seen.held, term_least_in rules k.stands.thing)
 
 pub term_deep : {s : List ℕ} {at d : ℕ} → Stands (term d) s at → 1 ≤ d
 term_deep k = omega (arith, k.seen.good.1, term_least_in rules k.thing)
+
+pub arms_inside : {s : List ℕ} {at d n : ℕ} → Stands (arms d n) s at → 2 * n ≤ length s - at
+arms_inside k = omega (arith, reach k.seen.held, arms_least k.thing, k.seen.good.2)

@@ -7,7 +7,7 @@ use native.Mathlib.Omega.{arith}
 use lib.ListN.{length, take, length-append, length-drop}
 use lib.Seq.{length-take-le}
 use borrow.Author.Tests.{lt-ltb, le-ltb}
-use Rattle.std.specs.Prelude.{Result, Ok, Err}
+use Rattle.std.specs.Prelude.{Result, Ok, Err, IfOk}
 use Rattle.std.specs.Result.{result_unwrap_or}
 use Rattle.language.specs.Setting.{Setting, in_version}
 use Rattle.language.specs.Read.{no_place, read}
@@ -116,3 +116,7 @@ pub written_inside : (S : Setting) (ws out : List ℕ) {n : ℕ} {o : List ℕ} 
 unfolding reply_of
 written_inside S ws out {n} e =
     let x = sound (written_shaped (read S ws) out) in rw (told_kept (Ok n) e x) (count_within (told_within (Ok n) e x))
+
+-- what arrived stands inside the buffer
+pub i_inside : {E : Type 0} {i : Result ℕ E} {n m : ℕ} → i ≡ Ok n → IfOk i (λ arrived. arrived ≤ m) → n ≤ m
+i_inside {m = m} k h = subst (λ x. IfOk x (λ arrived. arrived ≤ m)) k h

@@ -1,16 +1,19 @@
 -- The ways out of the functions that make text, in the words of the code: one law for each.
 -- Assumes nothing.
-use Prim.Native.Nat.{ℕ, zero, suc, ◌+◌, ◌-◌, ◌*◌, ◌/◌, ◌^◌, ◌<◌, ◌≤◌}
+use Prim.Native.Nat.{ℕ, zero, suc, ◌+◌, ◌-◌, ◌*◌, ◌/◌, ◌%◌, ◌^◌, ◌<◌, ◌≤◌}
 use mathlib.Core.Path.{◌≡◌, refl, sym, ap, ◌∙◌}
 use mathlib.Core.Bool.{Bool, true, false, cond}
-use mathlib.Core.List.{List, [], ◌∷◌, ◌++◌}
+use mathlib.Core.List.{List, [], ◌∷◌, ◌++◌, append_assoc}
 use native.Mathlib.Omega.{arith}
 use native.Mathlib.Nat.{le_antisymm, pow-le-pow_right}
+use native.Mathlib.Numerals.{towards_suc}
 use Rattle.std.proofs.Common.{zero-add}
 use lib.Dec.{ltb}
-use lib.ListN.{length, get_or, take, length-append}
+use lib.ListN.{length, get_or, take, set, length-append, length-set}
+use lib.Seq.{sets, sets-eq, drop-drop}
+use borrow.Rule.Slice.PartMut.{put_mid}
 use Rattle.std.proofs.lemmas.List.{length-take-le}
-use borrow.Author.Tests.{ltb-true, ltb-false}
+use borrow.Author.Tests.{ltb-true, ltb-false, lt-ltb, le-ltb, eq-eqb, ne_eqb}
 use Rattle.std.specs.Prelude.{Result, Ok, Err}
 use Rattle.io.specs.Counts.{IsPrefixLen}
 use Rattle.io.specs.Digits.{last_digits, IsDigitCount}
@@ -24,7 +27,29 @@ use Rattle.output.specs.declared.Output.{Output}
 use Rattle.output.proofs.Stored.{put_none, put_then, room_left, put_as, take_more}
 use Rattle.listing.specs.Printed.{printed}
 use Rattle.listing.specs.declared.Numbered.{Numbered}
-use Rattle.listing.specs.Text.{space, newline, end_of, word_text, listed, enough, places_of, decimal_text, number_text, ok_text, no_text, line, reply_text}
+use Rattle.listing.specs.Text.{space, newline, hex_digit, end_of, word_text, listed, enough, places_of, decimal_text, number_text, ok_text, no_text, line, reply_text}
+
+-- a digit
+pub below_ten : (d : ℕ) → d < 10 → 48 + d ≡ hex_digit d
+below_ten d h = simp (lt-ltb d 10 h)
+
+pub from_ten : (d : ℕ) → 10 ≤ d → 55 + d ≡ hex_digit d
+from_ten d h = simp (le-ltb d 10 h)
+
+-- what stands after a word
+pub last_word : (n i : ℕ) → i + 1 ≡ n → newline ≡ end_of n i
+last_word n i e = simp (eq-eqb (i + 1) n e)
+
+pub line_full : (n i : ℕ) → (i + 1 ≡ n → ⊥) → i % 8 ≡ 7 → newline ≡ end_of n i
+line_full n i k e = simp (ne_eqb (i + 1) n k, eq-eqb (i % 8) 7 e)
+
+pub within_line : (n i : ℕ) → (i + 1 ≡ n → ⊥) → (i % 8 ≡ 7 → ⊥) → space ≡ end_of n i
+within_line n i k e = simp (ne_eqb (i + 1) n k, ne_eqb (i % 8) 7 e)
+
+-- a word's text
+pub word_stored : (l : List ℕ) (at w e : ℕ) {a b c d : ℕ} → a ≡ hex_digit (w / 4096) → b ≡ hex_digit (w / 256 % 16) → c ≡ hex_digit (w / 16 % 16)
+    → d ≡ hex_digit (w % 16) → set (set (set (set (set l at a) (at + 1) b) (at + 2) c) (at + 3) d) (at + 4) e ≡ sets l at (word_text w e)
+word_stored l at w e p q r s = rw (p, q, r, s) (simp towards_suc)
 
 -- the words so far, and one more
 listed_more : (n i : ℕ) (ws : List ℕ) (w : ℕ) → listed n i (ws ++ (w ∷ [])) ≡ listed n i ws ++ word_text w (end_of n (i + length ws))
@@ -89,6 +114,14 @@ spelled n k t f e = e ∙ digits_are n k f
 
 pub spelled_few : (n k : ℕ) (t : List ℕ) → n < 2 ^ 64 → IsPrefixLen k t → IsDigitCount 10 1 n k → length (take k t) ≤ 20
 spelled_few n k t m c f = let l : k ≤ 20 = no_more n 20 k (omega arith) (omega arith) f in omega (arith, c.1)
+
+-- a space and a number: the digits are stored behind the space
+copied : (l ds : List ℕ) (at : ℕ) → at + length ds ≤ length l → put_mid at (length ds) l ds ≡ sets l at ds
+copied l ds at h = rw (drop-drop, sets-eq ds l at h, append_assoc)
+
+pub number_stored : (l ds : List ℕ) (at n : ℕ) {o : List ℕ} → at + 1 + length ds ≤ length l → o ≡ ds → n ≡ length ds
+    → put_mid (at + 1) n (set l at space) o ≡ sets l at (space ∷ ds)
+number_stored l ds at n h e k = rw (e, k) (copied (set l at space) ds (at + 1) (simp length-set (omega arith)) ∙ simp towards_suc)
 
 -- the room behind two runs, and behind three
 module _ {a b o o' o'' : List ℕ} {p i k : ℕ} (f : Put a o p o' i) (g : Put b o' i o'' k) where

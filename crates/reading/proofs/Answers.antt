@@ -10,7 +10,7 @@ use lib.Dec.{ltb, leb, eqb}
 use lib.ListN.{length}
 use mir.Syntax.{w8, w64}
 use mir.Val.{Fits}
-use borrow.Author.Tests.{lt-ltb, le-ltb, ltb-false, leb-true, not-false}
+use borrow.Author.Tests.{lt-ltb, le-ltb, ltb-true, ltb-false, leb-true, not-false}
 use Rattle.std.specs.Prelude.{Ok, Err}
 use Rattle.language.specs.Term.{Term}
 use Rattle.language.specs.Setting.{Setting}
@@ -23,7 +23,7 @@ use Rattle.language.specs.declared.Refusal.{Refusal}
 use Rattle.language.proofs.Clash.{never}
 use Rattle.sizes.specs.Lengths.{passing_length, image_length}
 use Rattle.sizes.proofs.Lengths.{of_image}
-use Rattle.reading.specs.Steps.{image_words, Next, No, step_of, term_step}
+use Rattle.reading.specs.Steps.{image_words, Step, Next, No, step_of, term_step}
 use Rattle.reading.proofs.Steps.{stops}
 use Rattle.reading.proofs.Sums.{term_small}
 
@@ -52,6 +52,19 @@ module _ (s : List ℕ) (g : Got Term) where
 
   pub rule_whole : {to z : ℕ} {b : Bool} → Next to b z ≡ term_step g → length s ≤ to → Next to b z ≡ term_step (then g (ended s))
   rule_whole h l = none_left s g h l
+
+-- the test after the last word of a table of n words, made where reading stands after a step: the three in one, for the step that any answer tells
+abbrev pub ended_at : ℕ → Step → Step
+ended_at n (Next to b z) = cond (ltb to n) (No 8 to) (Next to b z)
+ended_at n (No e p) = No e p
+
+pub rule_step : (s : List ℕ) (g : Got Term) (x : Step) → x ≡ term_step g → ended_at (length s) x ≡ term_step (then g (ended s))
+rule_step s g (Next to b z) h = go (ltb to (length s)) (ltb-true to (length s)) (ltb-false to (length s))
+  where
+    go : (c : Bool) → (c ≡ true → to < length s) → (c ≡ false → length s ≤ to) → cond c (No 8 to) (Next to b z) ≡ term_step (then g (ended s))
+    go true l m = rule_left s g h (l refl)
+    go false l m = rule_whole s g h (m refl)
+rule_step s g (No e p) h = rule_refused s g h
 
 -- what is counted in a table of not too many words is small
 closed_small : (S : Setting) (s : List ℕ) (at : ℕ) {to z : ℕ} {b : Bool} → Next to b z ≡ term_step (closed S s at) → z ≤ 7 * most_words

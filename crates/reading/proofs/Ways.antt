@@ -126,6 +126,10 @@ many_more p (suc k) at z = simp sub-one
 more_left : {i k : ℕ} → i < k → k - i ≡ 0 → ⊥
 more_left h e = omega arith
 
+-- where the ways through `all && b` meet
+pub l_met : {a b now : Bool} → ((a ≡ true) × (now ≡ b)) ⊎ ((a ≡ false) × (now ≡ a)) → now ≡ (a && b)
+l_met h = ⊎_elim (λ w. rw (w.0, w.1)) (λ w. rw (w.1, w.0)) h
+
 -- in the loop: behind the first i of k terms, which have z words and are all atoms or not, the terms from `at` on make up the whole
 pub l_start : (p : ℕ → Got Term) (k at : ℕ) → joined_of true 0 (terms_step (many p (k - 0) at)) ≡ terms_step (many p k at)
 l_start p k at = let e : k - 0 ≡ k = omega arith in rw e (joined_none (terms_step (many p k at)))

@@ -19,12 +19,12 @@ use Rattle.language.proofs.Places.{first_word}
 use Rattle.language.specs.declared.Parts.{Parts}
 use Rattle.language.specs.declared.Parts.TheVariants.{Nothing, Body, FunctionAndArguments, BoundAndBody, CountAndArguments, SubjectAndArms, ArityAndBody, HighAndLow, TwoParts}
 use Rattle.atoms.specs.Standing.{term, Seen, Stands, TermAt, AtomAt, Parted, FormAt, Counted}
-use Rattle.atoms.proofs.Standing.{no_arm}
+use Rattle.atoms.proofs.Standing.{no_arm, arms_inside}
 use Rattle.atoms.proofs.Opened.{Opened, o_call, opened}
 use Rattle.atoms.proofs.Ways.{parted}
 use Rattle.atoms.proofs.Tests.{Settles, settled, told, atom_settled}
 use Rattle.output.specs.Stored.{Room, Put}
-use Rattle.output.proofs.Stored.{put_as}
+use Rattle.output.proofs.Stored.{put_as, room_left}
 use Rattle.sizes.proofs.Lengths.{of_calling, of_making, of_working}
 use Rattle.writing.specs.Jobs.{Job, passed, kept, keeps, chained, branches, before, after, copied, ◌next◌, linked, handed, imaged, Ready, Done}
 use Rattle.writing.proofs.Jobs.{before_room, before_ready, before_done, after_ready, after_room, after_done, next_first, next_second, next_done, skipped_done, Plan, ready_as, done_as, Left, left_as, left_none, left_second}
@@ -248,6 +248,9 @@ module _ {s : List ℕ} {at : ℕ} {o : List ℕ} {p : ℕ} where
       pub number_ready : Ready (kept d) o p s at → Ready (copied 3) o p s at
       number_ready r = ready_as (plan_number H) r
 
+      pub number_left : {o' : List ℕ} {i : ℕ} → Put (get_or s at 0 ∷ []) o p o' i → Ready (kept d) o p s at → Room o' i 2
+      number_left f r = let q = number_ready r in room_left 2 f (omega (arith, q.room.fits, q.seen.good))
+
       pub number_done : {o' s' : List ℕ} {to end : ℕ} → Done (copied 3) o p s at o' s' to end → Done (kept d) o p s at o' s' to end
       number_done D = done_as (plan_number H) D
 
@@ -267,6 +270,9 @@ module _ {s : List ℕ} {at : ℕ} {o : List ℕ} {p : ℕ} where
         function_done f D = done_as (plan_function H) (next_done (skipped_done 1 refl) (before_done f D))
 
     -- a passing form that is handed a variable
+    pub handed_next : {w a : ℕ} {o' : List ℕ} {i : ℕ} → Ready (handed d w) o p s at → Put (a ∷ []) o p o' i → Ready (passed d) o' i s at
+    handed_next r f = after_ready (before_ready r f refl)
+
     module _ {w : ℕ} {o' : List ℕ} {i : ℕ} (f : Put (0x0401 ∷ []) o p o' i) {o'' s' : List ℕ} {to j : ℕ} where
       pub handed_left : Ready (handed d w) o p s at → Done (passed d) o' i s at o'' s' to j → Room o'' j 1
       handed_left r D = after_room (before_ready r f refl) D
@@ -305,6 +311,12 @@ module _ {s : List ℕ} {at : ℕ} {o : List ℕ} {p : ℕ} where
 
         pub arm_ready : Left K o₀ p₀ s₀ at₀ (branches d (n - k)) o p s at → Ready (copied 2) o p s at
         arm_ready L = next_first (arms_left L).ready
+
+        pub arm_inside : Left K o₀ p₀ s₀ at₀ (branches d (n - k)) o p s at → at + 1 < length s
+        arm_inside L = omega (arith, arms_inside (record { thing = L.ready.thing; to = L.ready.to; seen = L.ready.seen }))
+
+        pub arm_room : Left K o₀ p₀ s₀ at₀ (branches d (n - k)) o p s at → Room o p 2
+        arm_room L = let q = arm_ready L in record { fits = omega (arith, q.room.fits, q.seen.good) }
 
         module _ {o' s' : List ℕ} {i j : ℕ} where
           pub chain_next : Left K o₀ p₀ s₀ at₀ (chained d (n - k)) o p s at → Done (linked d) o p s at o' s' i j
