@@ -6,11 +6,11 @@ use mathlib.Core.Path.{◌≡◌, refl, sym, ap, subst}
 use mathlib.Core.List.{List, ◌++◌}
 use native.Mathlib.Omega.{arith}
 use lib.ListN.{length, length-append}
-use Rattle.atoms.specs.Standing.{Thing, Seen}
+use Rattle.atoms.specs.Standing.{over, Thing, Seen}
 use Rattle.atoms.proofs.Standing.{first, second, ends_over, ends_then}
 use Rattle.output.specs.Stored.{Room, Put}
 use Rattle.output.proofs.Stored.{put_none, put_then, room_left, put_as}
-use Rattle.writing.specs.Jobs.{Job, before, after, skipped, ◌next◌, reads, target, Ready, Done, SameOutput}
+use Rattle.writing.specs.Jobs.{Job, before, after, skipped, copied, ◌next◌, reads, target, Ready, Done, SameOutput}
 use Rattle.writing.specs.declared.Translator.{Translator}
 
 -- room for two runs of words: for the first, and behind it for the second
@@ -74,6 +74,11 @@ module _ {s : List ℕ} {at : ℕ} {o : List ℕ} {p : ℕ} where
   -- words that are read and not written
   pub skipped_done : (n : ℕ) {to : ℕ} → to ≡ at + n → Done (skipped n) o p s at o s to p
   skipped_done n e = record { same = refl; ends = ends_over n e; puts = λ x i k. put_none o p }
+
+  -- words that are read, where the same words are written
+  pub copied_done : (n : ℕ) {to : ℕ} {o' : List ℕ} {end : ℕ} → to ≡ at + n → ((x : List ℕ) (e : ℕ) → Seen (over n) s at e x → Put x o p o' end)
+      → Done (copied n) o p s at o' s to end
+  copied_done n e f = record { same = refl; ends = ends_over n e; puts = f }
 
 -- x, which J reads, as something that K reads, of which the same words are written
 pub record As (J K : Job) (s : List ℕ) (at to : ℕ) (x : Thing (reads J)) : Type 0 where

@@ -2,7 +2,7 @@
 -- for the next call or was done. `search` finds a law's premises in what is known at that place of the code.
 -- Assumes nothing.
 use Prim.Native.Nat.{ℕ, ◌+◌, ◌-◌, ◌%◌, ◌≤◌, ◌<◌}
-use mathlib.Core.Path.{◌≡◌, refl, ◌∙◌}
+use mathlib.Core.Path.{◌≡◌, refl, sym, ◌∙◌}
 use mathlib.Core.Bool.{true, false, false≢true}
 use mathlib.Core.Logic.{◌⊎◌, inl, inr}
 use mathlib.Core.List.{List, [], ◌∷◌}
@@ -15,7 +15,7 @@ use Rattle.language.specs.Image.{passing, calling, making, working}
 use Rattle.language.specs.Kinds.{most_byte, operands}
 use Rattle.language.specs.Limits.{deepest, Ranged, r_var, r_kvar, r_fun, r_call, r_bind, r_con, r_cases, r_num, r_op}
 use Rattle.language.specs.Places.{Held}
-use Rattle.language.proofs.Places.{first_word}
+use Rattle.language.proofs.Places.{first_word, next_words, there}
 use Rattle.language.specs.declared.Parts.{Parts}
 use Rattle.language.specs.declared.Parts.TheVariants.{Nothing, Body, FunctionAndArguments, BoundAndBody, CountAndArguments, SubjectAndArms, ArityAndBody, HighAndLow, TwoParts}
 use Rattle.atoms.specs.Standing.{term, Seen, Stands, TermAt, AtomAt, Parted, FormAt, Counted}
@@ -27,7 +27,7 @@ use Rattle.output.specs.Stored.{Room, Put}
 use Rattle.output.proofs.Stored.{put_as, room_left}
 use Rattle.sizes.proofs.Lengths.{of_calling, of_making, of_working}
 use Rattle.writing.specs.Jobs.{Job, passed, kept, keeps, chained, branches, before, after, copied, ◌next◌, linked, handed, imaged, Ready, Done}
-use Rattle.writing.proofs.Jobs.{before_room, before_ready, before_done, after_ready, after_room, after_done, next_first, next_second, next_done, skipped_done, Plan, ready_as, done_as, Left, left_as, left_none, left_second}
+use Rattle.writing.proofs.Jobs.{before_room, before_ready, before_done, copied_done, after_ready, after_room, after_done, next_first, next_second, next_done, skipped_done, Plan, ready_as, done_as, Left, left_as, left_none, left_second}
 use Rattle.writing.proofs.Plans.{loosened, chaining, plan_atom, plan_call, plan_let, plan_build, plan_operation, plan_match, plan_var, plan_number, plan_function, plan_constructor, plan_no_links, plan_links, plan_no_atoms, plan_atoms, plan_no_arms, plan_arms}
 
 -- numbers that are small enough for what is done with them
@@ -247,6 +247,33 @@ module _ {s : List ℕ} {at : ℕ} {o : List ℕ} {p : ℕ} where
     module _ (H : Parted HighAndLow d s at) where
       pub number_ready : Ready (kept d) o p s at → Ready (copied 3) o p s at
       number_ready r = ready_as (plan_number H) r
+
+      -- its words one by one are those that are copied
+      pub number_inside : Ready (kept d) o p s at → at + 2 < length s
+      number_inside r = let q = number_ready r in go q.thing q.seen.good q.seen.held
+        where
+          go : (x : List ℕ) {to : ℕ} → length x ≡ 3 → Held s x at to → at + 2 < length s
+          go [] l h = absurd (omega arith)
+          go (a ∷ []) l h = absurd (omega arith)
+          go (a ∷ b ∷ []) l h = absurd (omega arith)
+          go (a ∷ b ∷ c ∷ x) l h = omega (arith, there (next_words (next_words h)))
+
+      pub number_room : Ready (kept d) o p s at → Room o p 3
+      number_room r = let q = number_ready r in record { fits = omega (arith, q.room.fits, q.seen.good) }
+
+      pub number_put : {o' : List ℕ} {end : ℕ} → Put (get_or s at 0 ∷ get_or s (at + 1) 0 ∷ get_or s (at + 2) 0 ∷ []) o p o' end
+          → Done (kept d) o p s at o' s (at + 3) end
+      number_put f = done_as (plan_number H) (copied_done 3 refl (λ x e k. put_as (sym (go x k.good k.held)) f))
+        where
+          go : (x : List ℕ) {to : ℕ} → length x ≡ 3 → Held s x at to → (get_or s at 0 ∷ get_or s (at + 1) 0 ∷ get_or s (at + 2) 0 ∷ []) ≡ x
+          go [] l h = absurd (omega arith)
+          go (a ∷ []) l h = absurd (omega arith)
+          go (a ∷ b ∷ []) l h = absurd (omega arith)
+          go (a ∷ b ∷ c ∷ []) l h =
+              let k = next_words h in
+              let z : at + 1 + 1 ≡ at + 2 = omega arith in
+              rw (first_word h, first_word k, (rw z at (first_word (next_words k)))) refl
+          go (a ∷ b ∷ c ∷ d ∷ x) l h = absurd (omega arith)
 
       pub number_left : {o' : List ℕ} {i : ℕ} → Put (get_or s at 0 ∷ []) o p o' i → Ready (kept d) o p s at → Room o' i 2
       number_left f r = let q = number_ready r in room_left 2 f (omega (arith, q.room.fits, q.seen.good))

@@ -13,6 +13,11 @@ use language::{LOW_BYTE, OPERANDS, Parts};
 use output::Output;
 use runs::{Continuation, Source};
 
+// Where a number's words stand behind its head.
+const HIGH: usize = 1;
+
+const LOW: usize = 2;
+
 // A rule, the place of the next word of it that is read, and the output that the image is written to. Each method below reads what stands at
 // this place, up to its end, and writes a form of it.
 #[derive(Drop)]
@@ -205,13 +210,16 @@ impl<'rule, 'out, 'words> Translator<'rule, 'out, 'words> {
         self.at += 1;
     }
 
-    // The carried form of a number: itself.
+    // The carried form of a number: itself, its head and its two words.
     fn put_number(&mut self, depth: usize)
         requires ready { ReadyFor (kept depth) self.old }
         requires form { NextIs HighAndLow depth self.old }
         ensures { Does (kept depth) self.old self.new }
     {
-        self.put_copied(HEAD_AND_NUMBER);
+        let at = self.at;
+        let number = [self.rule[at], self.rule[at + HIGH], self.rule[at + LOW]];
+        self.out.put_all(&number);
+        self.at += HEAD_AND_NUMBER;
     }
 
     // The carried form of a function, recursive or not: it has one argument more.

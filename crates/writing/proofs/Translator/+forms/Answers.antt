@@ -75,6 +75,8 @@ put_chain-links-preserved t c = search ways
 pub put_chain-put_link-requires : goal.put_chain-put_link-requires
 put_chain-put_link-requires t c = search ways
 
+-- The chain is done where no term is left
+-- behind the last link.
 pub put_chain-returns : goal.put_chain-returns
 put_chain-returns t c = search ways
 
