@@ -124,10 +124,10 @@ impl<'a> Taker<'a> {
         let count = count_at(self.image, at);
         let mut values = [0usize; MOST_VALUES];
         let arguments = &mut values[..count];
-        let free = records.free;
+        let first = records.free;
         self.take_all(records, arguments, at + atoms::HEAD_AND_COUNT)?;
         let Some(base) = building::keep_constructor(records, tag, arguments) else {
-            records.free = free;
+            records.free = first;
             return None;
         };
         Some(base)

@@ -18,6 +18,8 @@ pub slice_bounds-write-end : goal.slice_bounds-write-end
 slice_bounds-write-end c =
     taken _ _ (t_inside _ c.args.out.now c.if-bytes-gt-MOST_BYTES.false _ c.in_ok-unpacked.ensures)
 
+-- Behind unpacking its words are written as a rule:
+-- the image, or why there is none.
 pub returns : goal.returns
 returns c =
     t_written _ _ c.if-bytes-gt-MOST_BYTES.false _ c.write.result c.in_ok-unpacked.ensures c.write.ensures
