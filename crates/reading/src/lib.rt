@@ -41,7 +41,8 @@ const CHAINED_WORDS: usize = 3;
 // What each argument of a constructor of atoms saves: its words in a chain, and what its passing form has besides its carried form.
 const SAVED_WORDS: usize = 6;
 
-// What was read: the place after it, whether it is all atoms, and its words in an image (of a term the passing form's, of a list the chain's).
+// What was read: whether it is all atoms, the place after it, and its words in an image (of a term the passing form's, of a list the chain's). The
+// byte stands first, as in a `Refusal`: in a `Result` of the two each field then has its own place, and none is put together from bytes.
 #[derive(Clone, Copy)]
 struct Found {
     atoms: bool,
@@ -260,7 +261,7 @@ impl<'a> Table<'a> {
         Ok(list)
     }
 
-    // The arms of a match, so many. Each arm's mark is kept for those behind it.
+    // The arms of a match, so many, within the reader of terms too. Each arm's mark is kept for those behind it.
     #[inline(always)]
     #[cycle(terms)]
     #[tactic(auto, using(crate::proofs::Ways::arms_ways))]
